@@ -55,3 +55,34 @@ pub struct Fields {
     /// Bits 31 to 25.
     pub funct7: Field<7>,
 }
+
+#[tactic(auto, unfolding(crate::specs::Word::fields_of, crate::specs::Word::word_of))]
+impl Fields {
+    ghost use Rattle.rv_isa.specs.Word.{word_of, fields_of};
+
+    /// The fields of a word.
+    pub fn of_word(word: u32) -> Self
+        ensures { result ≡ fields_of word }
+    {
+        Fields {
+            opcode: Field::of(word % (1 << 7)),
+            rd: Field::of((word >> 7) % (1 << 5)),
+            funct3: Field::of((word >> 12) % (1 << 3)),
+            rs1: Field::of((word >> 15) % (1 << 5)),
+            rs2: Field::of((word >> 20) % (1 << 5)),
+            funct7: Field::of(word >> 25),
+        }
+    }
+
+    /// The word that has these fields.
+    pub fn word(self) -> u32
+        ensures { result ≡ word_of self }
+    {
+        (self.funct7.number() << 25)
+            + (self.rs2.number() << 20)
+            + (self.rs1.number() << 15)
+            + (self.funct3.number() << 12)
+            + (self.rd.number() << 7)
+            + self.opcode.number()
+    }
+}
