@@ -4,5 +4,6 @@
 pub mod codes;
 pub mod ending;
 pub mod fields;
+mod formats;
 pub mod instr;
 pub mod words;
