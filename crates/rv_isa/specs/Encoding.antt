@@ -1,5 +1,5 @@
 -- The table of instruction words, both ways: RISC-V Instruction Set Manual, Volume I, "RV32/64G Instruction Set Listings".
-use Rattle.std.specs.Prelude.{ℕ, ◌+◌, ◌*◌, ◌/◌, ◌%◌, ◌^◌, Bool, ◌==◌, ◌&&◌, ◌||◌, Option, Some, None, [], ◌∷◌, if◌then◌else◌}
+use Rattle.std.specs.Prelude.{ℕ, ◌+◌, ◌*◌, ◌/◌, ◌%◌, ◌^◌, Bool, ◌==◌, ◌&&◌, ◌||◌, Option, Some, None, List, [], ◌∷◌, if◌then◌else◌}
 use Rattle.std.specs.List.{find}
 use Rattle.std.specs.Option.{option_map}
 use Rattle.rv_isa.specs.declared.fields.Fields.{Fields}
@@ -117,33 +117,56 @@ fields i.Ecall = r_format 0b1110011 0 0 0 0 0
 abbrev pub encoding : Instr → ℕ
 encoding i = word_of (fields i)
 
+-- The operations.
+
+abbrev pub branches : List Branch
+branches = branch.Beq ∷ branch.Bne ∷ branch.Blt ∷ branch.Bge ∷ branch.Bltu ∷ branch.Bgeu ∷ []
+
+abbrev pub loads : List Load
+loads = load.Lb ∷ load.Lh ∷ load.Lw ∷ load.Ld ∷ load.Lbu ∷ load.Lhu ∷ load.Lwu ∷ []
+
+abbrev pub stores : List Store
+stores = store.Sb ∷ store.Sh ∷ store.Sw ∷ store.Sd ∷ []
+
+abbrev pub imms : List ImmOp
+imms = imm.Addi ∷ imm.Slti ∷ imm.Sltiu ∷ imm.Xori ∷ imm.Ori ∷ imm.Andi ∷ []
+
+abbrev pub shifts : List Shift
+shifts = shift.Sll ∷ shift.Srl ∷ shift.Sra ∷ []
+
+abbrev pub ops : List RegOp
+ops = op.Add ∷ op.Sll ∷ op.Slt ∷ op.Sltu ∷ op.Xor ∷ op.Srl ∷ op.Or ∷ op.And ∷ op.Sub ∷ op.Sra ∷ op.Mul ∷ op.Mulh ∷ op.Mulhsu ∷ op.Mulhu ∷ op.Div ∷ op.Divu ∷ op.Rem ∷ op.Remu ∷ []
+
+abbrev pub word_ops : List WordOp
+word_ops = wop.Addw ∷ wop.Sllw ∷ wop.Srlw ∷ wop.Subw ∷ wop.Sraw ∷ wop.Mulw ∷ wop.Divw ∷ wop.Divuw ∷ wop.Remw ∷ wop.Remuw ∷ []
+
 -- The operation whose code stands in a word.
 
 abbrev pub branch_of : ℕ → Option Branch
-branch_of n = find (λ b. branch_code b == n) (branch.Beq ∷ branch.Bne ∷ branch.Blt ∷ branch.Bge ∷ branch.Bltu ∷ branch.Bgeu ∷ [])
+branch_of n = find (λ b. branch_code b == n) branches
 
 abbrev pub load_of : ℕ → Option Load
-load_of n = find (λ l. load_code l == n) (load.Lb ∷ load.Lh ∷ load.Lw ∷ load.Ld ∷ load.Lbu ∷ load.Lhu ∷ load.Lwu ∷ [])
+load_of n = find (λ l. load_code l == n) loads
 
 abbrev pub store_of : ℕ → Option Store
-store_of n = find (λ s. store_code s == n) (store.Sb ∷ store.Sh ∷ store.Sw ∷ store.Sd ∷ [])
+store_of n = find (λ s. store_code s == n) stores
 
 abbrev pub imm_of : ℕ → Option ImmOp
-imm_of n = find (λ o. imm_code o == n) (imm.Addi ∷ imm.Slti ∷ imm.Sltiu ∷ imm.Xori ∷ imm.Ori ∷ imm.Andi ∷ [])
+imm_of n = find (λ o. imm_code o == n) imms
 
 abbrev pub is_code : ℕ × ℕ → ℕ → ℕ → Bool
 is_code code funct3 funct7 = (code.0 == funct3) && (code.1 == funct7)
 
 abbrev pub shift_of : ℕ → ℕ → Option Shift
-shift_of funct3 funct7 = find (λ s. is_code (shift_code s) funct3 funct7) (shift.Sll ∷ shift.Srl ∷ shift.Sra ∷ [])
+shift_of funct3 funct7 = find (λ s. is_code (shift_code s) funct3 funct7) shifts
 
 abbrev pub op_of : ℕ → ℕ → Option RegOp
 op_of funct3 funct7 = find (λ o. is_code (op_code o) funct3 funct7)
-    (op.Add ∷ op.Sll ∷ op.Slt ∷ op.Sltu ∷ op.Xor ∷ op.Srl ∷ op.Or ∷ op.And ∷ op.Sub ∷ op.Sra ∷ op.Mul ∷ op.Mulh ∷ op.Mulhsu ∷ op.Mulhu ∷ op.Div ∷ op.Divu ∷ op.Rem ∷ op.Remu ∷ [])
+    ops
 
 abbrev pub word_op_of : ℕ → ℕ → Option WordOp
 word_op_of funct3 funct7 = find (λ o. is_code (word_op_code o) funct3 funct7)
-    (wop.Addw ∷ wop.Sllw ∷ wop.Srlw ∷ wop.Subw ∷ wop.Sraw ∷ wop.Mulw ∷ wop.Divw ∷ wop.Divuw ∷ wop.Remw ∷ wop.Remuw ∷ [])
+    word_ops
 
 -- a shift by six bits, or another operation with an immediate
 unfoldable pub imm_instr_of : Fields → Option Instr

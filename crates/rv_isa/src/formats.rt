@@ -7,7 +7,13 @@ use crate::codes::Code;
 use crate::fields::{Field, Fields, Register};
 
 /// The format R: an operation on two registers.
-pub(crate) fn r_format(opcode: u32, rd: Register, code: Code, rs1: Register, rs2: Register) -> Fields
+pub(crate) fn r_format(
+    opcode: u32,
+    rd: Register,
+    code: Code,
+    rs1: Register,
+    rs2: Register,
+) -> Fields
     requires { opcode < 2 ^ 7 }
     ensures { result ≡ r_format opcode rd code.funct3 rs1 rs2 code.funct7 }
 {
@@ -22,7 +28,13 @@ pub(crate) fn r_format(opcode: u32, rd: Register, code: Code, rs1: Register, rs2
 }
 
 /// The format I: an immediate of 12 bits, its low five bits in the place of rs2 and the others in funct7.
-pub(crate) fn i_format(opcode: u32, rd: Register, funct3: Field<3>, rs1: Register, immediate: Field<12>) -> Fields
+pub(crate) fn i_format(
+    opcode: u32,
+    rd: Register,
+    funct3: Field<3>,
+    rs1: Register,
+    immediate: Field<12>,
+) -> Fields
     requires { opcode < 2 ^ 7 }
     ensures { result ≡ i_format opcode rd funct3 rs1 immediate }
 {
@@ -38,7 +50,13 @@ pub(crate) fn i_format(opcode: u32, rd: Register, funct3: Field<3>, rs1: Registe
 }
 
 /// The format S: an immediate of 12 bits, its low five bits in the place of rd and the others in funct7.
-pub(crate) fn s_format(opcode: u32, funct3: Field<3>, rs1: Register, rs2: Register, immediate: Field<12>) -> Fields
+pub(crate) fn s_format(
+    opcode: u32,
+    funct3: Field<3>,
+    rs1: Register,
+    rs2: Register,
+    immediate: Field<12>,
+) -> Fields
     requires { opcode < 2 ^ 7 }
     ensures { result ≡ s_format opcode funct3 rs1 rs2 immediate }
 {
@@ -55,7 +73,13 @@ pub(crate) fn s_format(opcode: u32, funct3: Field<3>, rs1: Register, rs2: Regist
 
 /// The format B: half of an offset. Its highest bit is the sign in the highest bit of funct7, its next one
 /// the lowest of rd, then six bits in funct7 and four in rd.
-pub(crate) fn b_format(opcode: u32, funct3: Field<3>, rs1: Register, rs2: Register, half: Field<12>) -> Fields
+pub(crate) fn b_format(
+    opcode: u32,
+    funct3: Field<3>,
+    rs1: Register,
+    rs2: Register,
+    half: Field<12>,
+) -> Fields
     requires { opcode < 2 ^ 7 }
     ensures { result ≡ b_format opcode funct3 rs1 rs2 half }
 {
@@ -97,7 +121,11 @@ pub(crate) fn j_format(opcode: u32, rd: Register, half: Field<20>) -> Fields
     let low = bits % (1 << 10);
     let middle = (bits >> 10) % 2;
     let high = (bits >> 11) % (1 << 8);
-    u_format(opcode, rd, Field::of(sign * (1 << 19) + low * (1 << 9) + middle * (1 << 8) + high))
+    u_format(
+        opcode,
+        rd,
+        Field::of(sign * (1 << 19) + low * (1 << 9) + middle * (1 << 8) + high),
+    )
 }
 
 impl Fields {

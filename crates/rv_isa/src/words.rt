@@ -31,15 +31,39 @@ fn fields(instr: Instr) -> Fields
         Instr::Jal(rd, half) => j_format(0b1101111, rd, half),
         Instr::Jalr(rd, rs1, immediate) => i_format(0b1100111, rd, Field::of(0), rs1, immediate),
         Instr::Branch(branch, rs1, rs2, half) => b_format(0b1100011, branch.code(), rs1, rs2, half),
-        Instr::Load(load, rd, rs1, immediate) => i_format(0b0000011, rd, load.code(), rs1, immediate),
-        Instr::Store(store, rs1, rs2, immediate) => s_format(0b0100011, store.code(), rs1, rs2, immediate),
+        Instr::Load(load, rd, rs1, immediate) => i_format(
+            0b0000011,
+            rd,
+            load.code(),
+            rs1,
+            immediate,
+        ),
+        Instr::Store(store, rs1, rs2, immediate) => s_format(
+            0b0100011,
+            store.code(),
+            rs1,
+            rs2,
+            immediate,
+        ),
         Instr::Imm(op, rd, rs1, immediate) => i_format(0b0010011, rd, op.code(), rs1, immediate),
         Instr::Shift(shift, rd, rs1, amount) => shift_fields(shift.code(), rd, rs1, amount),
         Instr::Addiw(rd, rs1, immediate) => i_format(0b0011011, rd, Field::of(0), rs1, immediate),
-        Instr::ShiftWord(shift, rd, rs1, amount) => r_format(0b0011011, rd, shift.code(), rs1, amount),
+        Instr::ShiftWord(shift, rd, rs1, amount) => r_format(
+            0b0011011,
+            rd,
+            shift.code(),
+            rs1,
+            amount,
+        ),
         Instr::Op(op, rd, rs1, rs2) => r_format(0b0110011, rd, op.code(), rs1, rs2),
         Instr::WordOp(op, rd, rs1, rs2) => r_format(0b0111011, rd, op.code(), rs1, rs2),
-        Instr::Ecall => r_format(0b1110011, Field::of(0), Code::of(0, 0), Field::of(0), Field::of(0)),
+        Instr::Ecall => r_format(
+            0b1110011,
+            Field::of(0),
+            Code::of(0, 0),
+            Field::of(0),
+            Field::of(0),
+        ),
     }
 }
 
