@@ -1,5 +1,5 @@
 -- What is read from the fields of a word has these fields.
-use Rattle.std.proofs.Common.{◌≡◌, ◌≢◌, ℕ, ◌+◌, ◌*◌, ◌/◌, ◌%◌, ◌^◌, ◌<◌, ◌≤◌, ◌==◌, ◌&&◌, ◌||◌, Bool, true, false, refl, ap, sym, subst, ◌∙◌, arith, Option, Some, None, List, [], ◌∷◌, if◌then◌else◌}
+use Rattle.std.proofs.Common.{◌≡◌, ℕ, ◌+◌, ◌*◌, ◌/◌, ◌%◌, ◌^◌, ◌<◌, ◌==◌, ◌&&◌, ◌||◌, Bool, true, false, refl, ap, sym, subst, ◌∙◌, arith, Option, Some, None, List, [], ◌∷◌, if◌then◌else◌}
 use Rattle.std.specs.List.{find}
 use Rattle.std.specs.Option.{option_map}
 use Rattle.std.proofs.lemmas.Bool.{eqb-true}
@@ -54,7 +54,7 @@ holds {f = f} false h = none f
 is_code-true : (code : ℕ × ℕ) (m n : ℕ) → is_code code m n ≡ true → (code.0 ≡ m) × (code.1 ≡ n)
 is_code-true code m n e =
     let go : (a b : Bool) → (a ≡ true → code.0 ≡ m) → (b ≡ true → code.1 ≡ n) → (a && b) ≡ true → (code.0 ≡ m) × (code.1 ≡ n) =
-        λ a b. elim a as (λ (a : Bool). (a ≡ true → code.0 ≡ m) → (b ≡ true → code.1 ≡ n) → (a && b) ≡ true → (code.0 ≡ m) × (code.1 ≡ n)) [ true ↦ (λ p q h. (p refl, q h)) | false ↦ (λ p q h. cc) ] in
+    λ a b. elim a as (λ (a : Bool). (a ≡ true → code.0 ≡ m) → (b ≡ true → code.1 ≡ n) → (a && b) ≡ true → (code.0 ≡ m) × (code.1 ≡ n)) [ true ↦ (λ p q h. (p refl, q h)) | false ↦ (λ p q h. cc) ] in
     go (code.0 == m) (code.1 == n) (eqb-true code.0 m) (eqb-true code.1 n) e
 
 j_back : (n : ℕ) → n < 2 ^ 20 → jump_bits (jump_half n) ≡ n
@@ -67,10 +67,10 @@ jal_reads : (f : Fields) → AreFields f → f.opcode ≡ 0b1101111 → ReadsBac
 jal_reads f k e =
     let b : jump_bits (jump_half (u_imm f)) ≡ u_imm f = j_back (u_imm f) (omega arith) in
     some f _ (same_fields _ f (sym e) refl
-      (ap (λ (n : ℕ). n % 2 ^ 3) b ∙ omega arith)
-      (ap (λ (n : ℕ). n / 2 ^ 3 % 2 ^ 5) b ∙ omega arith)
-      (ap (λ (n : ℕ). n / 2 ^ 8 % 2 ^ 5) b ∙ omega arith)
-      (ap (λ (n : ℕ). n / 2 ^ 13) b ∙ omega arith)) (k.rd, omega arith)
+    (ap (λ (n : ℕ). n % 2 ^ 3) b ∙ omega arith)
+    (ap (λ (n : ℕ). n / 2 ^ 3 % 2 ^ 5) b ∙ omega arith)
+    (ap (λ (n : ℕ). n / 2 ^ 8 % 2 ^ 5) b ∙ omega arith)
+    (ap (λ (n : ℕ). n / 2 ^ 13) b ∙ omega arith)) (k.rd, omega arith)
 
 jalr_reads : (f : Fields) → AreFields f → f.opcode ≡ 0b1100111 → ReadsBack f (jalr_of f)
 jalr_reads f k e =
@@ -79,20 +79,20 @@ jalr_reads f k e =
 branch_reads : (f : Fields) → AreFields f → f.opcode ≡ 0b1100011 → ReadsBack f (option_map (λ b. i.Branch b f.rs1 f.rs2 (b_half f)) (branch_of f.funct3))
 branch_reads f k e =
     map_of (λ b. i.Branch b f.rs1 f.rs2 (b_half f)) (branch_of f.funct3) (λ b is.
-      let c : branch_code b ≡ f.funct3 = eqb-true _ _ (found (λ b. branch_code b == f.funct3) branches b is) in
-      some f _ (same_fields _ f (sym e) (omega arith) c refl refl (omega arith)) (k.rs1, k.rs2, omega arith))
+    let c : branch_code b ≡ f.funct3 = eqb-true _ _ (found (λ b. branch_code b == f.funct3) branches b is) in
+    some f _ (same_fields _ f (sym e) (omega arith) c refl refl (omega arith)) (k.rs1, k.rs2, omega arith))
 
 load_reads : (f : Fields) → AreFields f → f.opcode ≡ 0b0000011 → ReadsBack f (option_map (λ l. i.Load l f.rd f.rs1 (i_imm f)) (load_of f.funct3))
 load_reads f k e =
     map_of (λ l. i.Load l f.rd f.rs1 (i_imm f)) (load_of f.funct3) (λ l is.
-      let c : load_code l ≡ f.funct3 = eqb-true _ _ (found (λ l. load_code l == f.funct3) loads l is) in
-      some f _ (same_fields _ f (sym e) refl c refl (omega arith) (omega arith)) (k.rd, k.rs1, omega arith))
+    let c : load_code l ≡ f.funct3 = eqb-true _ _ (found (λ l. load_code l == f.funct3) loads l is) in
+    some f _ (same_fields _ f (sym e) refl c refl (omega arith) (omega arith)) (k.rd, k.rs1, omega arith))
 
 store_reads : (f : Fields) → AreFields f → f.opcode ≡ 0b0100011 → ReadsBack f (option_map (λ s. i.Store s f.rs1 f.rs2 (s_imm f)) (store_of f.funct3))
 store_reads f k e =
     map_of (λ s. i.Store s f.rs1 f.rs2 (s_imm f)) (store_of f.funct3) (λ s is.
-      let c : store_code s ≡ f.funct3 = eqb-true _ _ (found (λ s. store_code s == f.funct3) stores s is) in
-      some f _ (same_fields _ f (sym e) (omega arith) c refl refl (omega arith)) (k.rs1, k.rs2, omega arith))
+    let c : store_code s ≡ f.funct3 = eqb-true _ _ (found (λ s. store_code s == f.funct3) stores s is) in
+    some f _ (same_fields _ f (sym e) (omega arith) c refl refl (omega arith)) (k.rs1, k.rs2, omega arith))
 
 -- the high part of funct7 of a shift by six bits
 shift_high : (code : ℕ × ℕ) (funct7 : ℕ) → code.1 ≡ funct7 / 2 * 2 → (rs2 : ℕ) → rs2 < 2 ^ 5 → funct7 < 2 ^ 7 → code.1 + (funct7 % 2 * 2 ^ 5 + rs2) / 2 ^ 5 ≡ funct7
@@ -101,14 +101,14 @@ shift_high code funct7 e rs2 h k = omega arith
 imm_reads : (f : Fields) → AreFields f → f.opcode ≡ 0b0010011 → ReadsBack f (option_map (λ o. i.Imm o f.rd f.rs1 (i_imm f)) (imm_of f.funct3))
 imm_reads f k e =
     map_of (λ o. i.Imm o f.rd f.rs1 (i_imm f)) (imm_of f.funct3) (λ o is.
-      let c : imm_code o ≡ f.funct3 = eqb-true _ _ (found (λ o. imm_code o == f.funct3) imms o is) in
-      some f _ (same_fields _ f (sym e) refl c refl (omega arith) (omega arith)) (k.rd, k.rs1, omega arith))
+    let c : imm_code o ≡ f.funct3 = eqb-true _ _ (found (λ o. imm_code o == f.funct3) imms o is) in
+    some f _ (same_fields _ f (sym e) refl c refl (omega arith) (omega arith)) (k.rd, k.rs1, omega arith))
 
 shift_reads : (f : Fields) → AreFields f → f.opcode ≡ 0b0010011 → ReadsBack f (option_map (λ s. i.Shift s f.rd f.rs1 (f.funct7 % 2 * 2 ^ 5 + f.rs2)) (shift_of f.funct3 (f.funct7 / 2 * 2)))
 shift_reads f k e =
     map_of (λ s. i.Shift s f.rd f.rs1 (f.funct7 % 2 * 2 ^ 5 + f.rs2)) (shift_of f.funct3 (f.funct7 / 2 * 2)) (λ s is.
-      let c : ((shift_code s).0 ≡ f.funct3) × ((shift_code s).1 ≡ f.funct7 / 2 * 2) = is_code-true _ _ _ (found (λ s. is_code (shift_code s) f.funct3 (f.funct7 / 2 * 2)) shifts s is) in
-      some f _ (same_fields _ f (sym e) refl c.0 refl (omega arith) (shift_high (shift_code s) f.funct7 c.1 f.rs2 k.rs2 k.funct7)) (k.rd, k.rs1, omega arith))
+    let c : ((shift_code s).0 ≡ f.funct3) × ((shift_code s).1 ≡ f.funct7 / 2 * 2) = is_code-true _ _ _ (found (λ s. is_code (shift_code s) f.funct3 (f.funct7 / 2 * 2)) shifts s is) in
+    some f _ (same_fields _ f (sym e) refl c.0 refl (omega arith) (shift_high (shift_code s) f.funct7 c.1 f.rs2 k.rs2 k.funct7)) (k.rd, k.rs1, omega arith))
 
 imm_instr_reads : (f : Fields) → AreFields f → f.opcode ≡ 0b0010011 → ReadsBack f (imm_instr_of f)
 unfolding imm_instr_of
@@ -118,21 +118,21 @@ word_imm_instr_reads : (f : Fields) → AreFields f → f.opcode ≡ 0b0011011 �
 unfolding word_imm_instr_of
 word_imm_instr_reads f k e =
     test f.funct3 0 (λ z. some f _ (same_fields _ f (sym e) refl (sym z) refl (omega arith) (omega arith)) (k.rd, k.rs1, omega arith))
-      (map_of (λ s. i.ShiftWord s f.rd f.rs1 f.rs2) (shift_of f.funct3 f.funct7) (λ s is.
-        let c : ((shift_code s).0 ≡ f.funct3) × ((shift_code s).1 ≡ f.funct7) = is_code-true _ _ _ (found (λ s. is_code (shift_code s) f.funct3 f.funct7) shifts s is) in
-        some f _ (same_fields _ f (sym e) refl c.0 refl refl c.1) (k.rd, k.rs1, k.rs2)))
+    (map_of (λ s. i.ShiftWord s f.rd f.rs1 f.rs2) (shift_of f.funct3 f.funct7) (λ s is.
+    let c : ((shift_code s).0 ≡ f.funct3) × ((shift_code s).1 ≡ f.funct7) = is_code-true _ _ _ (found (λ s. is_code (shift_code s) f.funct3 f.funct7) shifts s is) in
+    some f _ (same_fields _ f (sym e) refl c.0 refl refl c.1) (k.rd, k.rs1, k.rs2)))
 
 op_reads : (f : Fields) → AreFields f → f.opcode ≡ 0b0110011 → ReadsBack f (option_map (λ o. i.Op o f.rd f.rs1 f.rs2) (op_of f.funct3 f.funct7))
 op_reads f k e =
     map_of (λ o. i.Op o f.rd f.rs1 f.rs2) (op_of f.funct3 f.funct7) (λ o is.
-      let c : ((op_code o).0 ≡ f.funct3) × ((op_code o).1 ≡ f.funct7) = is_code-true _ _ _ (found (λ o. is_code (op_code o) f.funct3 f.funct7) ops o is) in
-      some f _ (same_fields _ f (sym e) refl c.0 refl refl c.1) (k.rd, k.rs1, k.rs2))
+    let c : ((op_code o).0 ≡ f.funct3) × ((op_code o).1 ≡ f.funct7) = is_code-true _ _ _ (found (λ o. is_code (op_code o) f.funct3 f.funct7) ops o is) in
+    some f _ (same_fields _ f (sym e) refl c.0 refl refl c.1) (k.rd, k.rs1, k.rs2))
 
 word_op_reads : (f : Fields) → AreFields f → f.opcode ≡ 0b0111011 → ReadsBack f (option_map (λ o. i.WordOp o f.rd f.rs1 f.rs2) (word_op_of f.funct3 f.funct7))
 word_op_reads f k e =
     map_of (λ o. i.WordOp o f.rd f.rs1 f.rs2) (word_op_of f.funct3 f.funct7) (λ o is.
-      let c : ((word_op_code o).0 ≡ f.funct3) × ((word_op_code o).1 ≡ f.funct7) = is_code-true _ _ _ (found (λ o. is_code (word_op_code o) f.funct3 f.funct7) word_ops o is) in
-      some f _ (same_fields _ f (sym e) refl c.0 refl refl c.1) (k.rd, k.rs1, k.rs2))
+    let c : ((word_op_code o).0 ≡ f.funct3) × ((word_op_code o).1 ≡ f.funct7) = is_code-true _ _ _ (found (λ o. is_code (word_op_code o) f.funct3 f.funct7) word_ops o is) in
+    some f _ (same_fields _ f (sym e) refl c.0 refl refl c.1) (k.rd, k.rs1, k.rs2))
 
 all_zero : (a b c d e : ℕ) → ((a == 0) && ((b == 0) && ((c == 0) && ((d == 0) && (e == 0))))) ≡ true → (a ≡ 0) × (b ≡ 0) × (c ≡ 0) × (d ≡ 0) × (e ≡ 0)
 all_zero a b c d e h = grind (arith, nat_tests)
@@ -140,8 +140,8 @@ all_zero a b c d e h = grind (arith, nat_tests)
 system_reads : (f : Fields) → AreFields f → f.opcode ≡ 0b1110011 → ReadsBack f (system_instr_of f)
 system_reads f k e =
     holds ((f.rd == 0) && ((f.funct3 == 0) && ((f.rs1 == 0) && ((f.rs2 == 0) && (f.funct7 == 0))))) (λ h.
-      let z : (f.rd ≡ 0) × (f.funct3 ≡ 0) × (f.rs1 ≡ 0) × (f.rs2 ≡ 0) × (f.funct7 ≡ 0) = all_zero _ _ _ _ _ h in
-      some f _ (same_fields _ f (sym e) (sym z.0) (sym z.1) (sym z.2) (sym z.3) (sym z.4)) tt)
+    let z : (f.rd ≡ 0) × (f.funct3 ≡ 0) × (f.rs1 ≡ 0) × (f.rs2 ≡ 0) × (f.funct7 ≡ 0) = all_zero _ _ _ _ _ h in
+    some f _ (same_fields _ f (sym e) (sym z.0) (sym z.1) (sym z.2) (sym z.3) (sym z.4)) tt)
 
 pub reads_back : (f : Fields) → AreFields f → ReadsBack f (instr_of f)
 unfolding instr_of

@@ -1,3 +1,4 @@
 pub mod RoundTrip
 pub mod FromWords
 pub mod ToWords
+pub mod Laws

@@ -1,11 +1,7 @@
 -- Words and fields, and instructions and fields: each the inverse of the other.
-use Rattle.std.proofs.Common.{◌≡◌, ℕ, ◌+◌, ◌*◌, ◌/◌, ◌%◌, ◌^◌, ◌<◌, ◌≤◌, refl, ap, sym, ◌∙◌, arith, Option, Some, None}
+use Rattle.std.proofs.Common.{◌≡◌, ℕ, ◌^◌, ◌<◌, ap, ◌∙◌, arith}
 use Rattle.rv_isa.specs.declared.fields.Fields.{Fields}
-use Rattle.rv_isa.specs.declared.instr.Instr.{Instr}
-use Rattle.rv_isa.specs.declared.instr.Instr.TheVariants as i
 use Rattle.rv_isa.specs.Word.{AreFields, word_of, fields_of}
-use Rattle.rv_isa.specs.Encoding.{fields, instr_of, encoding, decoded}
-use Rattle.rv_isa.specs.Valid.{IsInstr}
 
 -- two rows of fields are the same where each field is
 pub same_fields : (f g : Fields) → f.opcode ≡ g.opcode → f.rd ≡ g.rd → f.funct3 ≡ g.funct3 → f.rs1 ≡ g.rs1 → f.rs2 ≡ g.rs2 → f.funct7 ≡ g.funct7 → f ≡ g

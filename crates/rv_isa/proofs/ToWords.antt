@@ -3,7 +3,6 @@ use Rattle.std.proofs.Common.{◌≡◌, ℕ, ◌+◌, ◌*◌, ◌/◌, ◌%◌
 use Rattle.std.specs.Option.{option_map}
 use Rattle.rv_isa.specs.declared.instr.Instr.{Instr}
 use Rattle.rv_isa.specs.declared.instr.Instr.TheVariants as i
-use Rattle.rv_isa.specs.declared.instr.Upper.{Upper}
 use Rattle.rv_isa.specs.declared.instr.Upper.TheVariants as upper
 use Rattle.rv_isa.specs.declared.instr.Branch.{Branch}
 use Rattle.rv_isa.specs.declared.instr.Branch.TheVariants as branch
@@ -20,7 +19,7 @@ use Rattle.rv_isa.specs.declared.instr.RegOp.TheVariants as op
 use Rattle.rv_isa.specs.declared.instr.WordOp.{WordOp}
 use Rattle.rv_isa.specs.declared.instr.WordOp.TheVariants as wop
 use Rattle.rv_isa.specs.Word.{AreFields, jump_bits, jump_half}
-use Rattle.rv_isa.specs.Encoding.{upper_opcode, branch_code, load_code, store_code, imm_code, shift_code, op_code, word_op_code, branch_of, load_of, store_of, imm_of, shift_of, op_of, word_op_of, fields, imm_instr_of, word_imm_instr_of, instr_of}
+use Rattle.rv_isa.specs.Encoding.{branch_code, load_code, store_code, imm_code, shift_code, op_code, word_op_code, branch_of, load_of, store_of, shift_of, op_of, word_op_of, fields, imm_instr_of, word_imm_instr_of, instr_of}
 use Rattle.rv_isa.specs.Valid.{IsInstr}
 
 -- each code is that of its operation, and within its field

@@ -1,7 +1,8 @@
 -- Which instructions there are: each number within its field (the formats of the RISC-V Instruction Set Manual, Volume I).
-use Rattle.std.specs.Prelude.{◌^◌, ◌<◌, List, [], ◌∷◌}
+use Rattle.std.specs.Prelude.{ℕ, ◌≡◌, ◌^◌, ◌<◌, List, [], ◌∷◌}
 use Rattle.rv_isa.specs.declared.instr.Instr.{Instr}
 use Rattle.rv_isa.specs.declared.instr.Instr.TheVariants as i
+use Rattle.rv_isa.specs.Encoding.{encoding}
 
 abbrev pub IsInstr : Instr → Type 0
 IsInstr (i.Upper u rd n) = (rd < 2 ^ 5) × (n < 2 ^ 20)
@@ -21,3 +22,7 @@ IsInstr i.Ecall = Unit {0}
 abbrev pub AreInstrs : List Instr → Type 0
 AreInstrs [] = Unit {0}
 AreInstrs (x ∷ xs) = IsInstr x × AreInstrs xs
+
+-- the word of some instruction
+abbrev pub IsWord : ℕ → Type 0
+IsWord w = (x : Instr) × IsInstr x × (encoding x ≡ w)

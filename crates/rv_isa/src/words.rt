@@ -1,6 +1,7 @@
 //! Instructions to words, and back.
 
-ghost use Rattle.std.specs.Prelude.{◌≡◌, ℕ, ◌+◌, ◌/◌, ◌%◌, ◌^◌, ◌<◌};
+ghost use Rattle.std.specs.Prelude.{◌≡◌, ◌↔◌, IsNone, IfSome, ℕ, ◌+◌, ◌/◌, ◌%◌, ◌^◌, ◌<◌};
+ghost use Rattle.rv_isa.specs.Valid.{IsInstr, IsWord};
 ghost use Rattle.rv_isa.specs.Word.{r_format};
 ghost use Rattle.rv_isa.specs.Encoding.{fields, encoding, instr_of, imm_instr_of, word_imm_instr_of, jalr_of, system_instr_of, decoded};
 
@@ -24,7 +25,8 @@ fn shift_fields(code: Code, rd: Field<5>, rs1: Field<5>, amount: Field<6>) -> Fi
 
 /// The row of the table.
 fn fields(instr: Instr) -> Fields
-    ensures { result ≡ fields instr }
+    ensures row { result ≡ fields instr }
+    ensures valid { IsInstr instr }
 {
     match instr {
         Instr::Upper(upper, rd, bits) => u_format(upper.opcode().number(), rd, bits),
@@ -70,7 +72,8 @@ fn fields(instr: Instr) -> Fields
 /// The word of an instruction.
 /// (The RISC-V Instruction Set Manual, Volume I, "RV32/64G Instruction Set Listings".)
 pub fn encode(instr: Instr) -> u32
-    ensures { result ≡ encoding instr }
+    ensures word { result ≡ encoding instr }
+    ensures back { decoded result ≡ Some instr }
 {
     fields(instr).word()
 }
@@ -146,7 +149,42 @@ fn instr(f: Fields) -> Option<Instr>
 /// (The RISC-V Instruction Set Manual, Volume I, "RV32/64G Instruction Set Listings".)
 #[tactic(auto, unfolding(crate::specs::Encoding::decoded))]
 pub fn decode(word: u32) -> Option<Instr>
-    ensures { result ≡ decoded word }
+    ensures value { result ≡ decoded word }
+    ensures back { IfSome result (λ i. IsInstr i × (encoding i ≡ word)) }
+    ensures none { IsNone result ↔ ¬ IsWord word }
 {
     instr(Fields::of_word(word))
+}
+
+#[cfg(test)]
+mod tests {
+    use super::*;
+
+    #[test]
+    fn reads_words(rt: HostRuntime) {
+        let addi = Instr::Imm(ImmOp::Addi, Field::of(17), Field::of(0), Field::of(5));
+        assert_eq!(rt; decode(0x0050_0893), Some(addi));
+        assert_eq!(rt; decode(0x0000_0073), Some(Instr::Ecall));
+        assert_eq!(rt; decode(0), None);
+        // a right shift of which bit 29 is set, and one of a word by 32
+        assert_eq!(rt; decode(0x2000_5013), None);
+        assert_eq!(rt; decode(0x0200_101b), None);
+    }
+
+    // The words were computed apart from this program, from the manual's bit positions.
+    #[test]
+    fn writes_words(rt: HostRuntime) {
+        let jal = Instr::Jal(Field::of(1), Field::of((1 << 20) - 2));
+        assert_eq!(rt; encode(jal), 0xffdf_f0ef);
+        let branch = Instr::Branch(
+            Branch::Bgeu,
+            Field::of(10),
+            Field::of(11),
+            Field::of((1 << 12) - 4),
+        );
+        assert_eq!(rt; encode(branch), 0xfeb5_7ce3);
+        let shift = Instr::Shift(Shift::Sra, Field::of(5), Field::of(6), Field::of(63));
+        assert_eq!(rt; encode(shift), 0x43f3_5293);
+        assert_eq!(rt; encode(Instr::Ecall), 0x0000_0073);
+    }
 }
