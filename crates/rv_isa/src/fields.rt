@@ -32,7 +32,8 @@ impl<const BITS: u32> Field<BITS> {
 
     /// The number that the field holds.
     pub fn number(self) -> u32
-        ensures { result ≡ self.entry }
+        ensures value { result ≡ self.entry }
+        ensures bits { result < 2 ^ BITS }
     {
         self.number
     }
