@@ -1,0 +1,4 @@
+pub mod RoundTrip
+pub mod FromWords
+pub mod ToWords
+pub mod Laws
