@@ -1,0 +1,6 @@
+mod Examples
+pub mod ReadingLemmas
+pub mod Steady
+pub mod Fuel
+pub mod Meant
+pub mod Built

@@ -1,0 +1,20 @@
+// Laws of the meaning of programs. Each function does nothing: a call of it gives its law.
+
+ghost use Rattle.core_form.specs.Laws.{ReadsProgn, ReadsPrimitive, MoreFuelKeeps, OutputStays, NeverAstray};
+
+/// A sequence and a call of a primitive are read by the lists that they hold.
+pub fn reads_lists()
+    ensures sequence { ReadsProgn }
+    ensures call { ReadsPrimitive }
+{}
+
+/// A run that ended with some fuel is the same with more; what a run without an end has shown stays.
+pub fn more_fuel_keeps()
+    ensures ending { MoreFuelKeeps }
+    ensures output { OutputStays }
+{}
+
+/// In a run of a program whose parts all have a meaning, each part comes to one.
+pub fn never_astray()
+    ensures { NeverAstray }
+{}
