@@ -1,12 +1,12 @@
 -- No run of a built program goes astray: the induction over the tree and the forms.
-use Rattle.std.proofs.Common.{◌≡◌, ℕ, suc, ◌+◌, Bool, true, false, if◌then◌else◌, refl, subst, sym, ap, ◌∙◌, List, [], ◌∷◌, length, arith, Option, Some, None}
+use Rattle.std.proofs.Common.{◌≡◌, ℕ, Bool, true, false, if◌then◌else◌, refl, ◌∙◌, List, [], ◌∷◌, length, arith, Option, Some, None}
 use Rattle.lisp_base.specs.declared.values.Val.{Val}
 use Rattle.lisp_base.specs.Spec.{Spec}
 use Rattle.lisp_base.specs.Membership.{SymbolKind}
 use Rattle.core_form.specs.Tree.{Core, Quote, If, Progn, Primitive, The, Cores, no_core, core, cores_length, Top}
-use Rattle.core_form.specs.State.{State, Run, Outcome, Gives, Fails, NotYet, Strays, ◌>>=◌, ◌>>◌, pure, begin, stack_at, box_all, first_of_values}
-use Rattle.core_form.specs.Step.{Vals, Around, inside, at_word, plain, is_true, arithmetic, first, one, check, primitive, row_of}
-use Rattle.core_form.specs.Eval.{Call, eval, args, progn, if_last, no_call, run_form, run_forms, evaluate, Program, start, at_top, symbol_kinds, IsBuilt, AreBuilt, TakesSoMany, TopsAreBuilt, ending_of, Astray, Value, Failed, Unfinished}
+use Rattle.core_form.specs.State.{Run, Outcome, Gives, Fails, NotYet, Strays, ◌>>=◌, ◌>>◌, pure, begin, stack_at, box_all, first_of_values}
+use Rattle.core_form.specs.Step.{Vals, Around, inside, at_word, plain, is_true, arithmetic, first, check, primitive, row_of}
+use Rattle.core_form.specs.Eval.{Call, eval, args, progn, no_call, run_form, run_forms, evaluate, start, at_top, symbol_kinds, IsBuilt, AreBuilt, TakesSoMany, TopsAreBuilt, ending_of, Astray}
 use Rattle.core_form.specs.Laws.{NeverAstray}
 use Rattle.core_form.proofs.Meant.{Settled, Sure, Any, bind_sure, pure_sure, check_sure, visit_sure, one_sure, first_sure, primitive_sure, stack_sure, begin_sure, box_sure}
 

@@ -1,16 +1,16 @@
 -- What small programs do, computed.
 use Rattle.std.specs.Prelude.{◌≡◌, refl, ℕ, List, [], ◌∷◌}
 use Rattle.lisp_base.specs.declared.values.Val.{Val}
-use Rattle.lisp_base.specs.declared.values.Val.TheVariants.{Int, Char, Sym, Ref}
+use Rattle.lisp_base.specs.declared.values.Val.TheVariants.{Char}
 use Rattle.lisp_base.specs.declared.values.Place.{Place}
 use Rattle.lisp_base.specs.declared.values.Place.TheVariants.{File}
 use Rattle.lisp_base.specs.declared.primitives.Primitive.TheVariants.{ReadChar, WriteChar}
 use Rattle.lisp_base.specs.declared.types.TypeName.TheVariants.{Character}
 use Rattle.lisp_base.specs.Sort.{nil}
 use Rattle.lisp_base.specs.Spec.{Named}
-use Rattle.core_form.specs.Tree.{Core, Quote, If, Progn, Primitive, The, Cores, no_core, core, node_count, Top}
-use Rattle.core_form.specs.State.{Fault, TypeError, Outcome, work, stack_need, heap_need}
-use Rattle.core_form.specs.Eval.{plain_program, evaluate, Ending, Value, Failed, ending_of, output_of, counts_of}
+use Rattle.core_form.specs.Tree.{Core, Quote, If, Progn, Primitive, The, no_core, core, node_count}
+use Rattle.core_form.specs.State.{TypeError, Outcome, work, stack_need}
+use Rattle.core_form.specs.Eval.{plain_program, evaluate, Value, Failed, ending_of, output_of, counts_of}
 use Rattle.core_form.specs.Everything.{everything}
 
 abbrev one_form : Core → List ℕ → Outcome Val

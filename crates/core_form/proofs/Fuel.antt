@@ -1,11 +1,11 @@
 -- More fuel keeps an ending: the induction over the tree and the forms.
-use Rattle.std.proofs.Common.{◌≡◌, ℕ, ◌≤◌, Bool, true, false, if◌then◌else◌, List, [], ◌∷◌, ◌++◌, reverse, ap, sym, ◌∙◌}
+use Rattle.std.proofs.Common.{◌≡◌, ℕ, Bool, true, false, if◌then◌else◌, List, [], ◌∷◌, ◌++◌, reverse, ap, sym, ◌∙◌}
 use Rattle.lisp_base.specs.declared.values.Val.{Val}
 use Rattle.lisp_base.specs.Membership.{SymbolKind}
 use Rattle.core_form.specs.Tree.{Core, Quote, If, Progn, Primitive, The, Cores, no_core, core, Top}
-use Rattle.core_form.specs.State.{State, Run, Outcome, Gives, Fails, NotYet, Strays}
-use Rattle.core_form.specs.Step.{Around, inside, at_word, plain, is_true, arithmetic, first}
-use Rattle.core_form.specs.Eval.{Call, eval, args, progn, no_call, run_form, run_forms, evaluate, Program, start, at_top, symbol_kinds, state_of, output_of}
+use Rattle.core_form.specs.State.{Run, Outcome, Gives, Fails, NotYet, Strays}
+use Rattle.core_form.specs.Step.{Around, inside, at_word, plain, is_true, arithmetic}
+use Rattle.core_form.specs.Eval.{Call, eval, args, progn, no_call, run_form, run_forms, evaluate, start, at_top, symbol_kinds, state_of, output_of}
 use Rattle.core_form.specs.Growth.{Steady, Reaches}
 use Rattle.core_form.specs.Laws.{MoreFuelKeeps, OutputStays}
 use Rattle.std.proofs.lemmas.List.{reverse-append, append-nil}

@@ -1,6 +1,6 @@
 -- How a node that holds a list is read.
-use Rattle.std.specs.Prelude.{◌≡◌, refl, List, [], ◌∷◌}
-use Rattle.std.proofs.Common.{ap, ◌∙◌, sym, rules}
+use Rattle.std.specs.Prelude.{◌≡◌, refl}
+use Rattle.std.proofs.Common.{ap, rules}
 use Rattle.std.specs.declared.vec.Vec.{Vec}
 use Rattle.std.specs.declared.alloc.Global.{Global}
 use Rattle.lisp_base.specs.declared.values.Place.{Place}
@@ -8,7 +8,7 @@ use Rattle.core_form.specs.declared.tree.Core.{Core as Core', the_lemmas}
 use Rattle.core_form.specs.declared.tree.Form.TheVariants as variant
 use Rattle.core_form.specs.declared.tree.Form.TheBlock as t
 use Rattle.lisp_base.specs.declared.primitives.Primitive.{Primitive as Primitive'}
-use Rattle.core_form.specs.Tree.{Progn, Primitive, Cores, no_core, core}
+use Rattle.core_form.specs.Tree.{Progn, Primitive, core}
 use Rattle.core_form.specs.Reading.{form_of, cores_of, cores_list}
 
 pub rows : (n : _) (k : t.Row_of-Core n) → cores_of k ≡ cores_list (t.items-the_row-Core n k)

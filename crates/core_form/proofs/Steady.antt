@@ -1,12 +1,12 @@
 -- More fuel keeps an ending, and output is never taken back.
-use Rattle.std.proofs.Common.{◌≡◌, refl, ap, sym, subst, ◌∙◌, ℕ, zero, suc, ◌+◌, ◌-◌, ◌≤◌, max, Bool, true, false, if◌then◌else◌, List, [], ◌∷◌, ◌++◌, length, append_assoc, arith, Option, Some, None}
+use Rattle.std.proofs.Common.{◌≡◌, refl, ap, sym, subst, ◌∙◌, ℕ, ◌+◌, max, Bool, true, false, if◌then◌else◌, List, [], ◌∷◌, ◌++◌, append_assoc, arith, Option, Some, None}
 use Rattle.lisp_base.specs.declared.values.Val.{Val}
-use Rattle.lisp_base.specs.declared.values.Val.TheVariants.{Int, Char, Sym, Ref}
+use Rattle.lisp_base.specs.declared.values.Val.TheVariants.{Char}
 use Rattle.lisp_base.specs.declared.values.Place.{Place}
 use Rattle.lisp_base.specs.declared.primitives.Primitive.{Primitive as Operation}
 use Rattle.lisp_base.specs.declared.primitives.Primitive.TheVariants as op
 use Rattle.lisp_base.specs.Spec.{Spec}
-use Rattle.core_form.specs.State.{Fault, Counts, State, Outcome, Gives, Fails, NotYet, Strays, Run, and_then, ◌>>=◌, ◌>>◌, pure, change, read, fail, stop, stray, counting, spend, allot, boxes_more, deliver_more, stack_at, begin, box_all, first_of_values}
+use Rattle.core_form.specs.State.{Fault, Counts, State, Outcome, Gives, Fails, NotYet, Strays, Run, and_then, ◌>>=◌, ◌>>◌, pure, change, read, fail, stray, counting, spend, allot, boxes_more, deliver_more, stack_at, begin, box_all}
 use Rattle.core_form.specs.Step.{Vals, Around, signal, pass, expect, check, deliver, visit, one, first, check_row, next_char, write, act, act_on_row, primitive}
 use Rattle.core_form.specs.Growth.{CountsGrow, Grows, Shown, Reaches, Steady}
 use Rattle.core_form.specs.Eval.{state_of}

@@ -4,7 +4,6 @@ use Rattle.lisp_base.specs.declared.values.Val.{Val}
 use Rattle.lisp_base.specs.declared.values.SymKind.{SymKind}
 use Rattle.lisp_base.specs.declared.values.SymKind.TheVariants.{Plain}
 use Rattle.lisp_base.specs.declared.values.Place.{Place}
-use Rattle.lisp_base.specs.declared.primitives.Primitive.{Primitive as Operation}
 use Rattle.lisp_base.specs.Sort.{nil}
 use Rattle.lisp_base.specs.Spec.{Spec}
 use Rattle.lisp_base.specs.Membership.{SymbolKind}

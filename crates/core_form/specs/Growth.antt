@@ -1,7 +1,7 @@
 -- What more fuel changes, and what it leaves.
 use Rattle.std.specs.Prelude.{◌≡◌, ℕ, ◌≤◌, List, ◌++◌}
 use Rattle.core_form.specs.State.{Counts, State, Outcome, Gives, Fails, NotYet, Strays, Run}
-use Rattle.core_form.specs.Eval.{Program, evaluate, state_of, TopsAreBuilt}
+use Rattle.core_form.specs.Eval.{state_of}
 
 -- no counter falls
 pub record CountsGrow (a b : Counts) : Type 0 where

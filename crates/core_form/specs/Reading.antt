@@ -1,5 +1,5 @@
 -- The plain tree that a Core is.
-use Rattle.std.specs.Prelude.{◌≡◌, refl, List, [], ◌∷◌, map}
+use Rattle.std.specs.Prelude.{List, [], ◌∷◌, map}
 use Rattle.lisp_base.specs.declared.values.Place.{Place}
 use Rattle.lisp_base.specs.Reading.{spec_of}
 use Rattle.core_form.specs.declared.tree.Core.{Core as Core'}

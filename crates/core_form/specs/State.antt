@@ -1,5 +1,5 @@
 -- The state of a run, what is counted, and how a stretch of a run ends.
-use Rattle.std.specs.Prelude.{ℕ, zero, suc, ◌+◌, ◌-◌, ◌*◌, ◌^◌, max, ℤ, pos, negsuc, Bool, true, false, ◌&&◌, if◌then◌else◌, int_le, int_lt, List, [], ◌∷◌, length, Option, Some, None}
+use Rattle.std.specs.Prelude.{ℕ, zero, suc, ◌+◌, ◌-◌, ◌*◌, ◌^◌, max, ℤ, pos, negsuc, Bool, ◌&&◌, if◌then◌else◌, int_le, int_lt, List, [], ◌∷◌, Option, Some, None}
 use Rattle.lisp_base.specs.declared.values.SymId.{SymId}
 use Rattle.lisp_base.specs.declared.values.Val.{Val}
 use Rattle.lisp_base.specs.declared.values.Val.TheVariants.{Int, Char, Sym, Ref}

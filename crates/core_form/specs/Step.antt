@@ -1,7 +1,7 @@
 -- The surroundings of a node, and the parts of its meaning that have no parts of the tree in them.
-use Rattle.std.specs.Prelude.{ℕ, zero, suc, ◌+◌, ◌-◌, Bool, true, false, not, if◌then◌else◌, List, [], ◌∷◌, length, slice_get, option_map, Option, Some, None}
+use Rattle.std.specs.Prelude.{ℕ, ◌-◌, Bool, true, false, not, if◌then◌else◌, List, [], ◌∷◌, length, slice_get, option_map, Option, Some, None}
 use Rattle.lisp_base.specs.declared.values.Val.{Val}
-use Rattle.lisp_base.specs.declared.values.Val.TheVariants.{Int, Char, Sym, Ref}
+use Rattle.lisp_base.specs.declared.values.Val.TheVariants.{Char}
 use Rattle.lisp_base.specs.declared.values.Place.{Place}
 use Rattle.lisp_base.specs.declared.primitives.Primitive.{Primitive as Operation}
 use Rattle.lisp_base.specs.declared.primitives.Primitive.TheVariants as op

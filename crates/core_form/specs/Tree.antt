@@ -1,5 +1,5 @@
 -- The tree of a program as its meaning sees it: no pointer, no shape. Its nodes are counted here.
-use Rattle.std.specs.Prelude.{ℕ, ◌+◌, List, [], ◌∷◌}
+use Rattle.std.specs.Prelude.{ℕ, ◌+◌}
 use Rattle.lisp_base.specs.declared.values.Place.{Place}
 use Rattle.lisp_base.specs.declared.values.Val.{Val}
 use Rattle.lisp_base.specs.declared.primitives.Primitive.{Primitive as Operation}

@@ -32,11 +32,10 @@ pub fn choice(
 ) -> Result<Core, AllocError>
     ensures { IfOk result (λ c. core_of c ≡ plain.If place (core_of test) (core_of yes) (core_of no)) }
 {
-    let form = Form::If(
-        Box::new(alloc, test)?,
-        Box::new(alloc, yes)?,
-        Box::new(alloc, no)?,
-    );
+    let test = Box::new(alloc, test)?;
+    let yes = Box::new(alloc, yes)?;
+    let no = Box::new(alloc, no)?;
+    let form = Form::If(test, yes, no);
     Ok(Core { place, form })
 }
 

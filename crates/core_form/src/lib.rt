@@ -3,6 +3,8 @@
 
 mod build;
 mod laws;
+#[cfg(test)]
+mod tests;
 mod tree;
 
 pub use build::{call, checked, choice, quote, sequence};

@@ -1,0 +1,3 @@
+mod Letters
+mod Numbers
+mod SymbolLaws

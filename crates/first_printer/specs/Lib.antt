@@ -1,0 +1,5 @@
+pub mod Words
+pub mod Values
+pub mod Errors
+pub mod Texts
+pub mod Objects

@@ -1,0 +1,5 @@
+-- The definitions of this crate.
+pub mod Tokens
+pub mod Grammar
+pub mod Parsing
+pub mod Laws

@@ -1,0 +1,5 @@
+pub mod Content
+pub mod View
+pub mod Fields
+pub mod Rows
+pub mod Format

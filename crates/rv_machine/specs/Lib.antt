@@ -1,0 +1,9 @@
+pub mod Registers
+pub mod Memory
+pub mod Parts
+pub mod View
+pub mod Steps
+pub mod Effects
+pub mod Runs
+pub mod Limits
+pub mod Loads
