@@ -20,7 +20,8 @@ compiled source bytes forms content program made rules written reads = record {
   is_program = program;
   content = content;
   is_image = ap image_of written ∙ reads content rules;
-  meets = subst (λ (x : Content). Meets (program_of forms) x) (sym made) (source_meets source forms program) }
+  meets = subst (λ (x : Content). Meets (program_of forms) x) (sym made) (source_meets source forms program);
+}
 
 pub refused : (source : List ℕ) (f : ReadFault) → f ≡ fault.NotYet → ((forms : List Top) → IsProgram source forms → Refuses f (Some forms)) → (forms : List Top) → IsProgram source forms → ⊥
 refused source f e h forms program =

@@ -52,8 +52,8 @@ row_rises pc (Some (places.File offset tail)) xs ih before above h =
     let r : SiteRow = record { pc = pc; place = site.File offset tail; text = Some 0 } in
     let rest = site_rows (pc + 4) xs in
     both (is_above before pc && is_site 1 r) (are_sites 1 (Some pc) rest)
-      (both (is_above before pc) (is_site 1 r) (above pc (omega arith)) (and_left (is_site 1 r) (list_all (is_site 1) rest) h))
-      (ih (Some pc) (above_some pc) (and_right (is_site 1 r) (list_all (is_site 1) rest) h))
+    (both (is_above before pc) (is_site 1 r) (above pc (omega arith)) (and_left (is_site 1 r) (list_all (is_site 1) rest) h))
+    (ih (Some pc) (above_some pc) (and_right (is_site 1 r) (list_all (is_site 1) rest) h))
 
 rises : (pc : ℕ) (xs : List Slot) → Rises pc xs
 rises pc [] before above h = refl
@@ -114,7 +114,8 @@ are_tables xs near right = record {
   sites = rises 65536 xs None (above_none 65536) right;
   functions = refl;
   variables = refl;
-  size = tables_size xs near }
+  size = tables_size xs near;
+}
 
 -- the tables and the image that are made of these parts
 pub tables_made : (xs : List Slot) (texts : List (List ℕ)) (sites : List SiteRow) (functions : List FunRow) (variables : List VarRow) →
@@ -141,4 +142,5 @@ is_image xs some near tables =
       debug = tables;
       entry_whole = refl;
       entry_low = omega arith;
-      entry_high = omega (arith, n, some) }
+      entry_high = omega (arith, n, some);
+    }

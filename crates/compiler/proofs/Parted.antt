@@ -50,10 +50,10 @@ pub one_more_part : (cs : List Core') (i : ℕ) (x : Core') (before next total :
 one_more_part cs i x before next total lt is made so_far =
     let rest = drop (i + 1) cs in
     let opened : codes_of (cores_list (drop i cs)) ≡ code_of (core_of x) ++ codes_of (cores_list rest) =
-        (at_drop_more (λ (xs : List Core'). codes_of (cores_list xs)) cs i x lt ∙ ap (λ (y : Core'). codes_of (cores_list (y ∷ rest))) (sym is)) ∙ codes_split (core_of x) (cores_list rest) in
+    (at_drop_more (λ (xs : List Core'). codes_of (cores_list xs)) cs i x lt ∙ ap (λ (y : Core'). codes_of (cores_list (y ∷ rest))) (sym is)) ∙ codes_split (core_of x) (cores_list rest) in
     let joined : (before ++ next) ++ codes_of (cores_list rest) ≡ before ++ (next ++ codes_of (cores_list rest)) = append_assoc before next (codes_of (cores_list rest)) in
     let named : before ++ (next ++ codes_of (cores_list rest)) ≡ before ++ (code_of (core_of x) ++ codes_of (cores_list rest)) =
-        ap (λ (y : List Slot). before ++ (y ++ codes_of (cores_list rest))) made in
+    ap (λ (y : List Slot). before ++ (y ++ codes_of (cores_list rest))) made in
     joined ∙ (named ∙ (ap (λ (y : List Slot). before ++ y) (sym opened) ∙ so_far))
 
 -- ---- a sequence

@@ -1,10 +1,10 @@
 // The bytes of a program's code.
+ghost use Rattle.std.specs.Prelude.{◌≡◌, IfOk};
+ghost use Rattle.compiler.specs.Parts.{code_bytes as bytes_of_code};
+
 use crate::slot::Slot;
 use rv_isa::words::encode;
 use std::alloc::{AllocError, Global};
-
-ghost use Rattle.std.specs.Prelude.{◌≡◌, IfOk};
-ghost use Rattle.compiler.specs.Parts.{code_bytes as bytes_of_code};
 
 /// The words of the instructions, one after another.
 ///

@@ -1,4 +1,9 @@
 // The code of a form, and of a whole program.
+ghost use Rattle.std.specs.Prelude.{◌≡◌, ◌^◌, ◌<◌, ◌++◌, true, length, IfOk};
+ghost use Rattle.core_form.specs.Reading.{core_of, cores_list, tops_of};
+ghost use Rattle.compiler.specs.Templates.{check_slots as check_of, write_slots as write_of, if_slots as if_of};
+ghost use Rattle.compiler.specs.Code.{constant_slots as constant_of, operation_slots as operation_of, code_of, sequence_of, codes_of, forms_code as forms_of, program_code as program_of, is_constant, is_served, are_served, is_served_call, forms_served};
+
 use crate::slot::Slot;
 use crate::templates::{
     check_slots, end_slots, nil_slots, read_slots, skip, test_slots, word_slots, write_slots,
@@ -7,11 +12,6 @@ use core_form::{Core, Form, TopForm, reads_lists};
 use lisp_base::{Place, Primitive, Val};
 use object_model::char_word;
 use std::alloc::{AllocError, Global};
-
-ghost use Rattle.std.specs.Prelude.{◌≡◌, ◌^◌, ◌<◌, ◌++◌, true, length, IfOk};
-ghost use Rattle.core_form.specs.Reading.{core_of, cores_list, tops_of};
-ghost use Rattle.compiler.specs.Templates.{check_slots as check_of, write_slots as write_of, if_slots as if_of};
-ghost use Rattle.compiler.specs.Code.{constant_slots as constant_of, operation_slots as operation_of, code_of, sequence_of, codes_of, forms_code as forms_of, program_code as program_of, is_constant, is_served, are_served, is_served_call, forms_served};
 
 /// The word of the symbol T.
 const TRUTH: u32 = 0x2000_003F;

@@ -1,14 +1,4 @@
 // The image of a program's top-level forms.
-use crate::bytes::code_bytes;
-use crate::code::program_code;
-use crate::sites::{CODE_START, site_rows};
-use crate::slot::Slot;
-use crate::statics::statics_bytes;
-use core_form::TopForm;
-use debug_info::Debug;
-use image::Image;
-use std::alloc::{AllocError, Global};
-
 ghost use Rattle.std.specs.Prelude.{◌≡◌, ◌^◌, ◌<◌, ◌∷◌, [], length, IfOk, OnOk};
 ghost use Rattle.core_form.specs.Reading.{tops_of};
 ghost use Rattle.debug_info.specs.Tables.{IsTables};
@@ -18,6 +8,16 @@ ghost use Rattle.image.specs.View.{view};
 ghost use Rattle.compiler.specs.Parts.{character_text, image_of_forms};
 ghost use Rattle.compiler.specs.Compiled.{AreServed};
 ghost use Rattle.compiler.specs.Emitted.{tables_of_code, image_of_code};
+
+use crate::bytes::code_bytes;
+use crate::code::program_code;
+use crate::sites::{CODE_START, site_rows};
+use crate::slot::Slot;
+use crate::statics::statics_bytes;
+use core_form::TopForm;
+use debug_info::Debug;
+use image::Image;
+use std::alloc::{AllocError, Global};
 
 /// The one text of the debug tables: the name of the one type that a form may expect.
 fn texts(alloc: Global) -> Result<Vec<String>, AllocError>

@@ -1,9 +1,9 @@
 // Why a source was not compiled.
-use lisp_base::Place;
-use std::alloc::{AllocError, AllocFailed};
-
 ghost use Rattle.std.specs.Prelude.{◌≡◌};
 ghost use Rattle.compiler.specs.declared.fault.CompileFault.TheVariants.{Memory};
+
+use lisp_base::Place;
+use std::alloc::AllocError;
 
 /// Why a source was not compiled.
 #[derive(Clone, Copy, PartialEq, Eq, Debug)]
@@ -18,14 +18,6 @@ impl From<AllocError> for CompileFault {
     ghost from_gives = { λ _ e. e ≡ Memory };
 
     fn from(_e: AllocError) -> CompileFault {
-        CompileFault::Memory
-    }
-}
-
-impl<T: Drop> From<AllocFailed<T>> for CompileFault {
-    ghost from_gives = { λ _ e. e ≡ Memory };
-
-    fn from(_e: AllocFailed<T>) -> CompileFault {
         CompileFault::Memory
     }
 }

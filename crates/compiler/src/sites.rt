@@ -1,13 +1,13 @@
 // The rows of the instructions that signal errors.
-use crate::slot::Slot;
-use debug_info::{SitePlace, SiteRow};
-use lisp_base::Place;
-use std::alloc::{AllocError, Global};
-
 ghost use Rattle.std.specs.Prelude.{◌≡◌, ◌+◌, ◌*◌, ◌^◌, ◌<◌, ◌≤◌, length, option_to_list, IfOk, IfSome, true};
 ghost use Rattle.std.specs.List.{list_all};
 ghost use Rattle.debug_info.specs.Tables.{is_site};
 ghost use Rattle.compiler.specs.Parts.{slot_rows as rows_of_slot, site_rows as rows_of_code};
+
+use crate::slot::Slot;
+use debug_info::{SitePlace, SiteRow};
+use lisp_base::Place;
+use std::alloc::{AllocError, Global};
 
 /// The address of the first instruction of the code.
 pub const CODE_START: u64 = 65_536;

@@ -1,14 +1,14 @@
 // From the bytes of a source to the bytes of its image.
+ghost use Rattle.std.specs.Prelude.{IfOk, IfErr};
+ghost use Rattle.compiler.specs.Compiled.{IsCompiled};
+ghost use Rattle.compiler.specs.Emitted.{IsRefused};
+
 use crate::emit::program_image;
 use crate::fault::CompileFault;
 use first_reader::{ReadFault, read_program};
 use image::{what_is_spelled_is_read, write};
 use lisp_base::Place;
 use std::alloc::Global;
-
-ghost use Rattle.std.specs.Prelude.{IfOk, IfErr};
-ghost use Rattle.compiler.specs.Compiled.{IsCompiled};
-ghost use Rattle.compiler.specs.Emitted.{IsRefused};
 
 /// The bytes of the image of a source.
 ///

@@ -1,11 +1,11 @@
 // The first objects of an image: NIL, T and their names.
-use object_model::{ObjKind, header};
-use std::alloc::{AllocError, Global};
-
 ghost use Rattle.std.specs.Prelude.{◌≡◌, IfOk};
 ghost use Rattle.std.specs.List.{flat_map};
 ghost use Rattle.std.specs.Int.{w64, to_le_bytes};
 ghost use Rattle.compiler.specs.Parts.{symbol_words as words_of_symbol, statics_words as words_of_statics, statics_bytes as bytes_of_statics};
+
+use object_model::{ObjKind, header};
+use std::alloc::{AllocError, Global};
 
 /// The word of NIL: a pointer to its cons, the first object.
 const NIL: u64 = 0x2000_0003;
@@ -13,6 +13,7 @@ const NIL: u64 = 0x2000_0003;
 const TRUTH: u64 = 0x2000_003F;
 /// Pointers to the names of the two symbols.
 const NIL_NAME: u64 = 0x2000_0067;
+
 const TRUTH_NAME: u64 = 0x2000_007F;
 /// The marker of a symbol without a function.
 const NO_FUNCTION: u64 = 18;

@@ -1,11 +1,11 @@
 // The instructions that each kind of form becomes.
+ghost use Rattle.std.specs.Prelude.{◌≡◌, ◌+◌, ◌*◌, ◌^◌, ◌<◌};
+ghost use Rattle.compiler.specs.Templates.{plain as plain_slot, signals as signal_slot, add as add_slot, nil_slots as nil_of, word_slots as word_of, read_slots as read_of, check_slots as check_of, write_slots as write_of, skip as skip_slot, test_slots as test_of, end_slots as end_of};
+
 use crate::slot::Slot;
 use lisp_base::Place;
 use rv_isa::fields::Field;
 use rv_isa::instr::{Branch, ImmOp, Instr, Shift, Upper};
-
-ghost use Rattle.std.specs.Prelude.{◌≡◌, ◌+◌, ◌*◌, ◌^◌, ◌<◌};
-ghost use Rattle.compiler.specs.Templates.{plain as plain_slot, signals as signal_slot, add as add_slot, nil_slots as nil_of, word_slots as word_of, read_slots as read_of, check_slots as check_of, write_slots as write_of, skip as skip_slot, test_slots as test_of, end_slots as end_of};
 
 /// The register that is always 0.
 const ZERO: u32 = 0;
@@ -64,7 +64,11 @@ pub fn word_slots(word: u32) -> [Slot; 2]
     requires { word < 2 ^ 31 }
     ensures { result ≡ word_of word }
 {
-    let upper = Instr::Upper(Upper::Lui, Field::of(SCRATCH), Field::of((word + 2048) / 4096));
+    let upper = Instr::Upper(
+        Upper::Lui,
+        Field::of(SCRATCH),
+        Field::of((word + 2048) / 4096),
+    );
     [plain(upper), add(VALUE, SCRATCH, word % 4096)]
 }
 
@@ -126,7 +130,12 @@ pub fn check_slots(place: Place) -> [Slot; 6]
 pub fn write_slots() -> [Slot; 3]
     ensures { result ≡ write_of }
 {
-    let shift = Instr::Shift(Shift::Srl, Field::of(ARGUMENT), Field::of(VALUE), Field::of(8));
+    let shift = Instr::Shift(
+        Shift::Srl,
+        Field::of(ARGUMENT),
+        Field::of(VALUE),
+        Field::of(8),
+    );
     [plain(shift), add(CALL, ZERO, 1), plain(Instr::Ecall)]
 }
 

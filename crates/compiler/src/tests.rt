@@ -16,7 +16,12 @@ fn echo(rt: HostRuntime) -> Result<(), Fail> {
     assert_eq!(rt; image.entry, 65_536);
     assert_eq!(rt; image.code.len(), 80);
     assert!(rt; image.code.as_slice().starts_with(&[0x13, 0x85, 0x09, 0x00]));
-    assert!(rt; image.code.as_slice().ends_with(&[0x93, 0x08, 0x30, 0x00, 0x73, 0, 0, 0]));
+    assert!(rt;
+        image
+            .code
+            .as_slice()
+            .ends_with(&[0x93, 0x08, 0x30, 0x00, 0x73, 0, 0, 0])
+    );
     assert_eq!(rt; image.statics.len(), 136);
     let site = Site {
         place: SitePlace::File { offset: 0, tail: 0 },
@@ -31,5 +36,8 @@ fn echo(rt: HostRuntime) -> Result<(), Fail> {
 #[test]
 fn no_program(rt: HostRuntime) {
     let place = Place::File { offset: 0, tail: 0 };
-    assert_eq!(rt; compile(rt.alloc(), b"(car nil)").err(), Some(CompileFault::NotYet { place }));
+    assert_eq!(rt;
+        compile(rt.alloc(), b"(car nil)").err(),
+        Some(CompileFault::NotYet { place })
+    );
 }

@@ -24,15 +24,15 @@ pub node_code-returns-then-is_empty : goal.node_code-returns-then-is_empty
 node_code-returns-then-is_empty t c =
     let none : length c.in-Progn.parts.items ≡ 0 = is_none _ _ c.is_empty.result c.is_empty.ensures c.if-is_empty.true c.in-Progn.parts.ok.0 in
     subst (λ (x : List Slot). IfOk c.from_slice.result (λ v. v.items ≡ x))
-      (c.nil_slots.ensures ∙ empty_progn c.reads_lists.ensures.sequence c.args.core.now c.in-Progn.parts c.in-Progn.is none)
-      c.from_slice.ensures.items
+    (c.nil_slots.ensures ∙ empty_progn c.reads_lists.ensures.sequence c.args.core.now c.in-Progn.parts c.in-Progn.is none)
+    c.from_slice.ensures.items
 
 pub node_code-returns-else-is_empty : goal.node_code-returns-else-is_empty
 node_code-returns-else-is_empty t c =
     let some : (length c.in-Progn.parts.items == 0) ≡ false = is_some _ _ c.is_empty.result c.is_empty.ensures c.if-is_empty.false c.in-Progn.parts.ok.0 in
     subst (λ (x : List Slot). IfOk c.part_codes.result (λ v. v.items ≡ x))
-      (some_progn c.reads_lists.ensures.sequence c.args.core.now c.in-Progn.parts c.deref-else-is_empty.result.now c.in-Progn.is c.deref-else-is_empty.ensures.value some)
-      c.part_codes.ensures
+    (some_progn c.reads_lists.ensures.sequence c.args.core.now c.in-Progn.parts c.deref-else-is_empty.result.now c.in-Progn.is c.deref-else-is_empty.ensures.value some)
+    c.part_codes.ensures
 
 pub node_code-returns-in_ok-part_codes-in-WriteChar :
     goal.node_code-returns-in_ok-part_codes-in-WriteChar
@@ -40,11 +40,14 @@ node_code-returns-in_ok-part_codes-in-WriteChar t c =
     let at = c.in-Primitive in
     let parts = c.deref-in-WriteChar in
     subst (λ (x : List Slot). IfOk c.write_code.result (λ v. v.items ≡ x))
-      (write_is c.reads_lists.ensures.call c.args.core.now at.operation at.arguments parts.result.now c.in_ok-part_codes-in-WriteChar.field-0.items at.is c.in-WriteChar.is parts.ensures.value c.in_ok-part_codes-in-WriteChar.ensures)
-      c.write_code.ensures
+    (write_is c.reads_lists.ensures.call c.args.core.now at.operation at.arguments parts.result.now c.in_ok-part_codes-in-WriteChar.field-0.items at.is c.in-WriteChar.is parts.ensures.value c.in_ok-part_codes-in-WriteChar.ensures)
+    c.write_code.ensures
 
 pub part_codes-node_code-requires : goal.part_codes-node_code-requires
-part_codes-node_code-requires t c =
-    (search (rules, the_lemmas, c.part-item.is, at_most),
-     (subst (λ (x : Core). is_served (core_of x) ≡ true) (sym c.part-item.is) (part_served c.args.parts.now c.loop-part.part-index c.part-item.result c.loop-part-test.true c.requires.served),
-     subst (λ (x : Core). length (code_of (core_of x)) < 262144) (sym c.part-item.is) (let w = part_within c.args.parts.now c.loop-part.part-index c.part-item.result c.loop-part-test.true in omega (arith, w))))
+part_codes-node_code-requires t c = (
+  search (rules, the_lemmas, c.part-item.is, at_most),
+  (
+    subst (λ (x : Core). is_served (core_of x) ≡ true) (sym c.part-item.is) (part_served c.args.parts.now c.loop-part.part-index c.part-item.result c.loop-part-test.true c.requires.served),
+    subst (λ (x : Core). length (code_of (core_of x)) < 262144) (sym c.part-item.is) (let w = part_within c.args.parts.now c.loop-part.part-index c.part-item.result c.loop-part-test.true in omega (arith, w)),
+  ),
+)

@@ -8,4 +8,4 @@ use Rattle.compiler.proofs.code.forms_code.Goals as goal
 pub node_code-requires-clause-served : goal.node_code-requires-clause-served
 node_code-requires-clause-served c =
     subst (λ (f : TopForm). is_served (core_of f.core) ≡ true) (sym c.form-item.is)
-      (form_served c.args.forms.now c.loop-form.form-index c.form-item.result c.loop-form-test.true c.requires.served)
+    (form_served c.args.forms.now c.loop-form.form-index c.form-item.result c.loop-form-test.true c.requires.served)

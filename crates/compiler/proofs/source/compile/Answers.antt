@@ -14,10 +14,10 @@ returns-in-Err-NotYet-clause-refused c =
 pub program_image-requires : goal.program_image-requires
 program_image-requires c =
     source_served c.args.source.now (tops_of c.deref.result.now)
-      (subst (λ (fs : List TopForm). IsProgram c.args.source.now (tops_of fs)) (sym c.deref.ensures.value) c.in-Ok.ensures.found)
+    (subst (λ (fs : List TopForm). IsProgram c.args.source.now (tops_of fs)) (sym c.deref.ensures.value) c.in-Ok.ensures.found)
 
 pub returns-clause-compiled : goal.returns-clause-compiled
 returns-clause-compiled c =
     compiled c.args.source.now c.in_ok-write.field-0.items (tops_of c.deref.result.now) (view c.in_ok-image.image)
-      (subst (λ (fs : List TopForm). IsProgram c.args.source.now (tops_of fs)) (sym c.deref.ensures.value) c.in-Ok.ensures.found)
-      c.in_ok-image.ensures.content c.in_ok-image.ensures.rules c.in_ok-write.ensures c.what_is_spelled_is_read.ensures
+    (subst (λ (fs : List TopForm). IsProgram c.args.source.now (tops_of fs)) (sym c.deref.ensures.value) c.in-Ok.ensures.found)
+    c.in_ok-image.ensures.content c.in_ok-image.ensures.rules c.in_ok-write.ensures c.what_is_spelled_is_read.ensures
