@@ -1,0 +1,1 @@
+(write-char (read-char nil nil))

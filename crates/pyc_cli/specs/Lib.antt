@@ -1,0 +1,13 @@
+pub mod Ending
+pub mod Order
+pub mod Moved
+pub mod Making
+pub mod Running
+pub mod Told
+pub mod View
+pub mod Asked
+pub mod Stages
+pub mod Work
+pub mod Line
+pub mod Lines
+pub mod Tool

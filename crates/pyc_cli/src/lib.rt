@@ -1,0 +1,21 @@
+//! The top call of the compiler: what the words of a command line ask for, done over a store, an
+//! input and two outputs that are handed in.
+#![tactic(auto)]
+
+mod command;
+mod commands;
+mod line;
+mod making;
+mod moving;
+mod outcome;
+mod running;
+mod status;
+#[cfg(test)]
+mod tests;
+mod top;
+mod words;
+
+pub use command::{Command, Verb};
+pub use status::Status;
+pub use top::tool;
+pub use words::{WordFault, parse_words};
