@@ -1,9 +1,9 @@
 -- What follows from how a call of the tool ends.
-use Rattle.std.proofs.Common.{◌≡◌, ℕ, List, Option, None, Some, Bool, true, false, refl, sym, ap, ◌∙◌, subst, inl, inr, arith}
+use Rattle.std.proofs.Common.{◌≡◌, ℕ, List, Option, None, Some, Bool, true, refl, sym, ap, ◌∙◌, subst, inl, inr, arith}
 use Rattle.std.specs.Prelude.{◌⊎◌}
 use Rattle.outside_io.specs.Causes.{Rose}
 use Rattle.outside_io.specs.Views.{Names, Kept, Fed, Sunk}
-use Rattle.outside_io.specs.Names.{Changes, ChangesTold}
+use Rattle.outside_io.specs.Names.{ChangesTold}
 use Rattle.pyc_cli.specs.declared.status.Status.{Status}
 use Rattle.pyc_cli.specs.declared.status.Status.TheVariants as status
 use Rattle.pyc_cli.specs.declared.moving.Wrote.{Wrote}
@@ -14,13 +14,13 @@ use Rattle.pyc_cli.specs.declared.words.WordFault.{WordFault}
 use Rattle.pyc_cli.specs.declared.words.WordFault.TheVariants as words
 use Rattle.pyc_cli.specs.Asked.{IsOutside}
 use Rattle.pyc_cli.specs.Ending.{Ending, Close, told, read_fault, write_fault, memory, status_told, status_of, line_of, value, error, usage, refused, absent, heap, stack, step_limit, bad_image, trap, not_text, too_long}
-use Rattle.pyc_cli.specs.Line.{turned, PutsLine, Shows, Finishes}
+use Rattle.pyc_cli.specs.Line.{turned, Finishes}
 use Rattle.pyc_cli.specs.Moved.{PutsAll, is_failed}
 use Rattle.pyc_cli.specs.Order.{Order}
 use Rattle.pyc_cli.specs.Stages.{word_close}
-use Rattle.pyc_cli.specs.Told.{Told, IsSet, TellsInput, TellsBytes, TellsSet, TellsSource, TellsGot, TellsRun, stops}
+use Rattle.pyc_cli.specs.Told.{Told, IsSet, TellsGot, TellsRun}
 use Rattle.pyc_cli.specs.Tool.{Ends, Tells, TellsVerb, gets_first, verb_gets_first, AsTold, ChangesOnly, RoseInRead, RoseInWrite, name_set, verb_sets}
-use Rattle.pyc_cli.specs.Work.{Outside, outside, Later, Whole, Works, Early, Late, Does, IsTorn, SetFault, PutFault}
+use Rattle.pyc_cli.specs.Work.{Outside, outside, Whole, Works, Early, Late, Does, IsTorn, SetFault, PutFault}
 use Rattle.pyc_cli.proofs.Works.{does_usage}
 
 -- ---- the ends of a call

@@ -1,11 +1,11 @@
 -- That a run leaves at its second name an image that does what the program does.
-use Rattle.std.proofs.Common.{◌≡◌, ℕ, ◌<◌, ◌≤◌, List, [], length, take, min, Option, None, Some, IfSome, Bool, true, false, refl, sym, ap, ◌∙◌, subst, inl, inr, arith, rules}
+use Rattle.std.proofs.Common.{◌≡◌, ℕ, ◌<◌, ◌≤◌, List, [], length, take, min, Option, None, Some, IfSome, Bool, true, false, refl, sym, ap, ◌∙◌, subst, inl, inr, arith}
 use Rattle.std.specs.Prelude.{◌⊎◌}
 use Rattle.std.proofs.lemmas.List.{length-take}
 use Rattle.std.proofs.lemmas.List.{take_all}
 use Rattle.outside_io.specs.Causes.{Rose}
 use Rattle.outside_io.specs.Views.{Names, Sunk}
-use Rattle.outside_io.specs.Names.{cut, Changes, ChangesTold}
+use Rattle.outside_io.specs.Names.{cut, ChangesTold}
 use Rattle.pyc_cli.specs.declared.command.Verb.{Verb}
 use Rattle.pyc_cli.specs.declared.command.Verb.TheVariants as verbs
 use Rattle.pyc_cli.specs.declared.moving.Wrote.{Wrote}
@@ -15,12 +15,11 @@ use Rattle.pyc_cli.specs.declared.status.Status.TheVariants as status
 use Rattle.pyc_cli.specs.Ending.{Ending, Close, told, read_fault, write_fault, memory, status_told, status_of, refused, absent, usage}
 use Rattle.pyc_cli.specs.Line.{turned, Finishes}
 use Rattle.pyc_cli.specs.Making.{IsImageOf}
-use Rattle.pyc_cli.specs.Moved.{is_failed}
 use Rattle.pyc_cli.specs.Order.{Order}
-use Rattle.pyc_cli.specs.Told.{Told, IsSet, stops, TellsInput, TellsGot, TellsRun}
-use Rattle.pyc_cli.specs.Tool.{Ends, Tells, TellsVerb, gets_first, is_after_set, WasSet, IsMade, MadeOf, verb_makes, Makes}
-use Rattle.pyc_cli.specs.Work.{Outside, Whole, ReadFault, SetFault, PutFault, Works, Early, Late, Does}
-use Rattle.pyc_cli.proofs.Calls.{turned_read, turned_write, close_read, close_write, finishes_read, finishes_memory, turned_memory}
+use Rattle.pyc_cli.specs.Told.{Told, IsSet, stops, TellsGot, TellsRun}
+use Rattle.pyc_cli.specs.Tool.{Ends, Tells, TellsVerb, gets_first, is_after_set, WasSet, MadeOf, verb_makes, Makes}
+use Rattle.pyc_cli.specs.Work.{Outside, Works, Early, Late}
+use Rattle.pyc_cli.proofs.Calls.{turned_read, close_read, close_write}
 
 -- ---- what the status says of the close
 

@@ -1,5 +1,5 @@
 -- What is told of an input, and what a run leaves of it and of out.
-use Rattle.std.proofs.Common.{◌≡◌, ℕ, ◌+◌, ◌<◌, ◌≤◌, List, [], ◌++◌, length, take, drop, Option, None, Some, IfSome, Bool, true, false, cond, refl, sym, ap, ◌∙◌, subst, arith}
+use Rattle.std.proofs.Common.{◌≡◌, ℕ, ◌+◌, ◌<◌, ◌≤◌, List, [], ◌++◌, length, drop, Option, None, Some, IfSome, true, false, refl, sym, ap, subst, arith}
 use Rattle.std.specs.Prelude.{nat_lt, if◌then◌else◌, IsUtf8}
 use Rattle.std.specs.Str.{is_utf8, chars}
 use Rattle.std.specs.Str.Lossy.{utf8_valid_len}
@@ -11,11 +11,11 @@ use Rattle.image.specs.Content.{Content}
 use Rattle.image.specs.declared.fault.ImageKind.{ImageKind}
 use Rattle.image.specs.declared.fault.ImageFault.{ImageFault}
 use Rattle.image.specs.declared.fault.ImageFault.TheVariants as faults
-use Rattle.image.specs.Fields.{Fault, fault, Fails}
+use Rattle.image.specs.Fields.{fault, Fails}
 use Rattle.image.specs.Format.{image_of}
 use Rattle.outside_io.specs.Causes.{Rose}
 use Rattle.outside_io.specs.Views.{Fed, Sunk, gained, untaken}
-use Rattle.pyc_cli.specs.Ending.{Ending, Close, told, read_fault, write_fault, memory, not_text, too_long, bad_image}
+use Rattle.pyc_cli.specs.Ending.{Close, told, read_fault, write_fault, memory, not_text, too_long, bad_image}
 use Rattle.pyc_cli.specs.Moved.{Left, GainsFront}
 use Rattle.pyc_cli.specs.Order.{Limits}
 use Rattle.pyc_cli.specs.Stages.{Runs, RunLeaves, image_close}

@@ -1,9 +1,7 @@
 -- Bytes moved by one call after another.
-use Rattle.std.proofs.Common.{◌≡◌, ℕ, ◌+◌, ◌<◌, ◌≤◌, List, [], ◌++◌, length, take, drop, Option, None, Some, IfSome, Bool, true, refl, sym, ap, ◌∙◌, arith, append_assoc, rules}
-use Rattle.std.proofs.lemmas.List.{take-append-drop, length-append}
-use Rattle.outside_io.specs.Causes.{HasCause, Rose, one_more}
-use Rattle.outside_io.specs.Views.{Fed, Sunk, gained, untaken}
-use Rattle.pyc_cli.specs.Moved.{Left}
+use Rattle.std.proofs.Common.{◌≡◌, ℕ, ◌≤◌, List, [], ◌++◌, take, drop, Option, None, Some, refl, sym, ap, ◌∙◌, arith, append_assoc, rules}
+use Rattle.std.proofs.lemmas.List.{take-append-drop}
+use Rattle.outside_io.specs.Views.{Sunk, gained, untaken}
 
 -- a front of a piece was put so far, and this is the rest
 pub record PutFront (old new : Sunk) (piece rest : List ℕ) : Type 0 where

@@ -1,5 +1,5 @@
 -- A run of an image, by the runs of the machine between what it writes.
-use Rattle.std.proofs.Common.{◌≡◌, ◌≢◌, ℕ, zero, suc, ◌+◌, ◌-◌, ◌<◌, ◌≤◌, List, [], ◌∷◌, ◌++◌, length, Option, None, Some, Bool, true, false, refl, sym, ap, ◌∙◌, subst, arith, append_assoc, rules}
+use Rattle.std.proofs.Common.{◌≡◌, ◌≢◌, ℕ, zero, suc, ◌+◌, ◌-◌, ◌<◌, ◌≤◌, List, [], ◌∷◌, ◌++◌, length, Option, None, Some, refl, sym, ap, ◌∙◌, subst, arith, append_assoc}
 use Rattle.std.specs.Prelude.{encode_utf8}
 use Rattle.std.specs.Str.{encode_utf8_all}
 use Rattle.std.proofs.lemmas.Str.{encodes-append}
@@ -17,7 +17,6 @@ use Rattle.rv_machine.specs.Loads.{IsLoaded}
 use Rattle.rv_machine.specs.Runs.{IsRun}
 use Rattle.rv_machine.specs.Steps.{written, Tells, event_of}
 use Rattle.rv_machine.specs.View.{space, state}
-use Rattle.outside_io.specs.Causes.{Rose}
 use Rattle.outside_io.specs.Views.{Sunk, gained}
 use Rattle.pyc_cli.specs.declared.moving.Wrote.{Wrote}
 use Rattle.pyc_cli.specs.declared.moving.Wrote.TheVariants as wrote
@@ -28,7 +27,7 @@ use Rattle.pyc_cli.specs.Running.{setup, last_state, ending_at, shown, end_of}
 use Rattle.pyc_cli.specs.Stages.{IsToldBy, event_told}
 use Rattle.pyc_cli.specs.Told.{told_run}
 use Rattle.pyc_cli.specs.Work.{Writes}
-use Rattle.pyc_cli.proofs.Growth.{append_none, Grows, steps_grow, steps_add, steps_stay}
+use Rattle.pyc_cli.proofs.Growth.{append_none, steps_grow, steps_add, steps_stay}
 use Rattle.pyc_cli.proofs.Pieces.{gained_none, gained_twice}
 
 -- a run under way: what it has written so far, and how many steps it has made

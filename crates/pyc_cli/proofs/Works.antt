@@ -1,16 +1,16 @@
 -- The work of a command, by its stages.
-use Rattle.std.proofs.Common.{◌≡◌, ℕ, ◌<◌, ◌≤◌, List, [], length, Option, None, Some, IfSome, Bool, true, false, refl, sym, ap, ◌∙◌, subst, arith, inl, inr}
+use Rattle.std.proofs.Common.{◌≡◌, ℕ, ◌≤◌, List, Option, None, Some, IfSome, true, false, refl, ap, ◌∙◌, subst, arith, inl, inr}
 use Rattle.std.specs.Prelude.{◌⊎◌}
 use Rattle.image.specs.Format.{image_of}
-use Rattle.outside_io.specs.Causes.{Rose, HasCause}
-use Rattle.outside_io.specs.Views.{Names, Kept, Fed, Sunk, gained}
-use Rattle.outside_io.specs.Names.{cut, Changes, ChangesTold}
+use Rattle.outside_io.specs.Causes.{Rose}
+use Rattle.outside_io.specs.Views.{Names, Kept, Fed, Sunk}
+use Rattle.outside_io.specs.Names.{cut, ChangesTold}
 use Rattle.pyc_cli.specs.Ending.{Ending, Close, told, read_fault, write_fault, memory, refused, absent, usage}
 use Rattle.pyc_cli.specs.Making.{IsRefused}
 use Rattle.pyc_cli.specs.Order.{Order}
 use Rattle.pyc_cli.specs.Stages.{Runs, RunLeaves}
-use Rattle.pyc_cli.specs.Told.{Told, IsSet, stops, told_image, TellsInput, TellsBytes, TellsSet, TellsSource, TellsGot, TellsRun}
-use Rattle.pyc_cli.specs.Work.{Outside, outside, Later, Whole, Works, Early, Late, Does, SetFault}
+use Rattle.pyc_cli.specs.Told.{Told, IsSet, stops, told_image, TellsInput, TellsBytes, TellsSet, TellsSource, TellsRun}
+use Rattle.pyc_cli.specs.Work.{Outside, outside, Whole, Works, Early, Late, Does}
 use Rattle.pyc_cli.proofs.Inputs.{some_input, known, left_stays}
 use Rattle.pyc_cli.proofs.Pieces.{gained_none}
 

@@ -1,5 +1,5 @@
 -- What the stages of a command leave, before they are taken together.
-use Rattle.std.specs.Prelude.{◌≡◌, ◌<◌, ◌≤◌, ℕ, List, [], ◌++◌, length, Option, None, Some, true, IfSome, string_bytes}
+use Rattle.std.specs.Prelude.{◌≡◌, ◌<◌, ◌≤◌, ℕ, List, [], ◌++◌, length, Option, true, IfSome, string_bytes}
 use Rattle.outside_io.specs.Causes.{Rose}
 use Rattle.outside_io.specs.Views.{Fed, Sunk, gained, untaken}
 use Rattle.pyc_cli.specs.Ending.{Ending, Close, told, value, error, usage, heap, stack, step_limit, bad_image, trap, read_fault, write_fault, memory}

@@ -1,5 +1,5 @@
 -- What the work of a call leaves, before its last line.
-use Rattle.std.specs.Prelude.{◌<◌, length, ◌≡◌, ℕ, ◌≤◌, List, Option, Some, None, ◌⊎◌, Bool, true, false}
+use Rattle.std.specs.Prelude.{◌<◌, length, ◌≡◌, ℕ, ◌≤◌, List, Option, Some, None, ◌⊎◌, Bool, true}
 use Rattle.outside_io.specs.Causes.{Rose}
 use Rattle.outside_io.specs.Views.{Names, Kept, Fed, Sunk, gained}
 use Rattle.outside_io.specs.Names.{ChangesTold}
