@@ -1,0 +1,5 @@
+mod Tables
+mod Marks
+mod Growth
+mod Instrs
+mod Lands
