@@ -9,8 +9,11 @@ use Rattle.lisp_base.specs.declared.primitives.Primitive.TheVariants as op
 use Rattle.lisp_base.specs.declared.types.TypeName.TheVariants as name
 use Rattle.lisp_base.specs.Spec.{Named}
 use Rattle.lisp_base.specs.Membership.{is_character}
-use Rattle.core_form.specs.State.{State as Life, TypeError, first_of_values, ◌>>◌, pure}
-use Rattle.core_form.specs.Step.{Vals, Around, check, primitive}
+use Rattle.core_form.specs.State.{State as Life, TypeError, first_of_values}
+use Rattle.core_form.specs.Force.{Vals, check}
+use Rattle.core_form.specs.Primitives.{primitive}
+use Rattle.core_form.specs.Step.{Around}
+use Rattle.core_form.specs.Run.{◌>>◌, perform, pure}
 use Rattle.core_form.specs.Everything.{everything}
 use Rattle.rv_isa.specs.declared.ending.Ending.TheVariants as ending
 use Rattle.rv_isa.specs.Machine.{Space, State}
@@ -47,7 +50,7 @@ module _ (space : Space) (places : ℕ → Option Place) (m0 : ℕ → ℕ) wher
   -- a declared check
   pub checked : (cx : Around) (p : Place) (v : Val) (vs : Vals) → first_of_values vs ≡ v → Legal v → (t : State) (l : Life) (before : ℕ) → Ready m0 t l →
       t.registers 10 ≡ word_of_value v → Stand space places t.pc (check_slots p) → t.pc < 2 ^ 30 → before + 16 ≤ 16 * l.counts.cost →
-      Tracks space places m0 first_of_values t (t.pc + 24) before ((check cx p (Named name.Character) v >> pure vs) l)
+      Tracks space places m0 first_of_values t (t.pc + 24) before ((perform (check cx.force p (Named name.Character) v) >> pure vs) l)
   unfolding everything
   checked cx p (Int z) vs e legal t l before r a0 st far pace =
       stopped p (Int z) refl legal t l _ before r refl a0 st (omega arith)
@@ -64,7 +67,7 @@ module _ (space : Space) (places : ℕ → Option Place) (m0 : ℕ → ℕ) wher
   -- WRITE-CHAR of a value that is there
   pub written : (cx : Around) (p : Place) (v : Val) → Legal v → (t : State) (l : Life) (before : ℕ) → Ready m0 t l →
       t.registers 10 ≡ word_of_value v → Stand space places t.pc (check_slots p ++ write_slots) → t.pc < 2 ^ 30 → before + 16 ≤ 16 * l.counts.cost →
-      Tracks space places m0 first_of_values t (t.pc + 36) before (primitive cx p op.WriteChar (v ∷ []) l)
+      Tracks space places m0 first_of_values t (t.pc + 36) before (perform (primitive cx.force p op.WriteChar (v ∷ [])) l)
   unfolding everything
   written cx p (Int z) legal t l before r a0 st far pace =
       stopped p (Int z) refl legal t l _ before r refl a0 (stands_first space places t.pc (check_slots p) write_slots st) (omega arith)

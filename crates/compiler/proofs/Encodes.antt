@@ -202,6 +202,7 @@ mutual
       let k = length-append (code_of e) (check_slots p) in
       let h' = and_right (is_file p) (is_character_type t && is_served e) h in
       all_of (code_of e) (check_slots p) (code_encodes e (and_right (is_character_type t) (is_served e) h') (omega (arith, k))) (check_encodes p)
+  code_encodes _ h near = absurd (cc)
 
   sequence_encodes : (es : Cores) → are_served es ≡ true → 4 * length (sequence_of es) < 2 ^ 20 → EncodeAll (sequence_of es)
   sequence_encodes no_core h near = nil_encodes

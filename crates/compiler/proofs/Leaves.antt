@@ -7,8 +7,11 @@ use Rattle.lisp_base.specs.declared.values.Val.{Val}
 use Rattle.lisp_base.specs.declared.values.Val.TheVariants.{Int, Char, Sym, Ref}
 use Rattle.lisp_base.specs.declared.values.Place.{Place}
 use Rattle.lisp_base.specs.Sort.{nil, number_of, symbol}
-use Rattle.core_form.specs.State.{State as Life, Outcome, Gives, Fails, NotYet, Strays, Run, and_then, first_of_values}
-use Rattle.core_form.specs.Step.{Vals, Around, visit, deliver, one, next_char}
+use Rattle.core_form.specs.State.{State as Life, first_of_values}
+use Rattle.core_form.specs.Force.{Vals, Force, one}
+use Rattle.core_form.specs.Primitives.{next_char}
+use Rattle.core_form.specs.Step.{Around, deliver}
+use Rattle.core_form.specs.Run.{Outcome, Gives, Fails, NotYet, Leaves, Run, and_then, perform, visit}
 use Rattle.core_form.specs.Everything.{everything}
 use Rattle.rv_isa.specs.Machine.{Space, State}
 use Rattle.compiler.specs.Words.{word_of_value}
@@ -35,7 +38,7 @@ nil_value (Ref o) h = absurd (cc)
 
 module _ (space : Space) (places : ℕ → Option Place) (m0 : ℕ → ℕ) where
   delivered : (cx : Around) (s : State) (pc before : ℕ) (o : Outcome Vals) →
-      Tracks space places m0 first_of_values s pc before o → Tracks space places m0 first_of_values s pc before (and_then o (deliver cx))
+      Tracks space places m0 first_of_values s pc before o → Tracks space places m0 first_of_values s pc before (and_then o (λ (vs : Vals). perform (deliver cx.text.word vs)))
   unfolding everything
   delivered cx s pc before (Gives vs l) r = record {
     t = r.t;
@@ -51,7 +54,7 @@ module _ (space : Space) (places : ℕ → Option Place) (m0 : ℕ → ℕ) wher
   }
   delivered cx s pc before (Fails f p l) r = r
   delivered cx s pc before (NotYet l) r = absurd r
-  delivered cx s pc before (Strays l) r = absurd r
+  delivered cx s pc before (Leaves x l) r = absurd r
 
   -- a node is what is in it, and one more is spent
   pub visited : (cx : Around) (m : Run Vals) (s : State) (l : Life) (pc before : ℕ) →
@@ -69,7 +72,7 @@ module _ (space : Space) (places : ℕ → Option Place) (m0 : ℕ → ℕ) wher
       arrived space places m0 first_of_values 2 s (s.pc + 8) before (v ∷ []) l
       (as_ready space places m0 2 s (s.pc + 8) v l r (word_comes space places m0 s v r.good legal small st)) r.chars (omega arith)
 
-  symbol_tracks : (n : ℕ) → n < 2 → Does space places m0 16 (constant_slots (Sym (symbol n))) (one (Sym (symbol n)))
+  symbol_tracks : (n : ℕ) → n < 2 → Does space places m0 16 (constant_slots (Sym (symbol n))) (perform (one (Sym (symbol n))))
   unfolding everything
   symbol_tracks zero h s l before r st far near pace =
       arrived space places m0 first_of_values 1 s (s.pc + 4) before (nil ∷ []) l (as_ready space places m0 1 s (s.pc + 4) nil l r (nil_comes space places m0 s r.good st)) r.chars (omega arith)
@@ -78,7 +81,7 @@ module _ (space : Space) (places : ℕ → Option Place) (m0 : ℕ → ℕ) wher
   symbol_tracks (suc (suc n)) h s l before r st far near pace = absurd (omega arith)
 
   -- a constant
-  pub constant_tracks : (v : Val) → is_constant v ≡ true → Does space places m0 16 (constant_slots v) (one v)
+  pub constant_tracks : (v : Val) → is_constant v ≡ true → Does space places m0 16 (constant_slots v) (perform (one v))
   unfolding everything
   constant_tracks (Int z) h s l before r st far near pace = absurd (cc)
   constant_tracks (Char c) h s l before r st far near pace =
@@ -87,11 +90,11 @@ module _ (space : Space) (places : ℕ → Option Place) (m0 : ℕ → ℕ) wher
   constant_tracks (Ref o) h s l before r st far near pace = absurd (cc)
 
   -- the next character, or NIL
-  pub read_tracks : (p : Place) (s : State) (l : Life) (before : ℕ) (input : List ℕ) → l.input ≡ input → Chars input → Ready m0 s l →
+  pub read_tracks : (f : Force) (p : Place) (s : State) (l : Life) (before : ℕ) (input : List ℕ) → l.input ≡ input → Chars input → Ready m0 s l →
       Stand space places s.pc read_slots → s.pc < 2 ^ 30 → before + 16 ≤ 16 * l.counts.cost →
-      Tracks space places m0 first_of_values s (s.pc + 32) before (next_char p nil nil input l)
+      Tracks space places m0 first_of_values s (s.pc + 32) before (perform (next_char f p nil nil input) l)
   unfolding everything
-  read_tracks p s l before [] none chars r st far pace =
+  read_tracks f p s l before [] none chars r st far pace =
       let c = read_ends space places m0 s r.good (omega arith) (r.input_is ∙ none) st in
       let c' : Comes space m0 5 s (s.pc + 32) nil (reverse l.output) l.input = record {
         t = c.t;
@@ -104,7 +107,7 @@ module _ (space : Space) (places : ℕ → Option Place) (m0 : ℕ → ℕ) wher
         input_is = c.input_is ∙ sym none;
       } in
       arrived space places m0 first_of_values 5 s (s.pc + 32) before (nil ∷ []) l c' r.chars (omega arith)
-  read_tracks p s l before (x ∷ xs) some chars r st far pace =
+  read_tracks f p s l before (x ∷ xs) some chars r st far pace =
       let c = read_gives space places m0 s x xs r.good (omega arith) (r.input_is ∙ some) chars.0 st in
       let l' = record l { input = xs } in
       let c' : Comes space m0 7 s (s.pc + 32) (Char x) (reverse l.output) xs = record {

@@ -17,7 +17,6 @@ pub mod Programs
 pub mod Tagged
 pub mod Seen
 pub mod Theorem
-pub mod Tokens
 pub mod Sources
 pub mod Law
 mod Parted

@@ -11,8 +11,11 @@ use Rattle.lisp_base.specs.Spec.{Spec, Named, Integer, Signed, Unsigned, Mod, Me
 use Rattle.lisp_base.specs.Membership.{is_symbol_number}
 use Rattle.lisp_base.specs.Sort.{nil, same}
 use Rattle.core_form.specs.Tree.{Core, Quote, If, Primitive, The, no_core, core}
-use Rattle.core_form.specs.State.{State as Life, Outcome, Gives, Fails, NotYet, Strays, Run, and_then, first_of_values, ◌>>=◌, ◌>>◌, pure}
-use Rattle.core_form.specs.Step.{Vals, Around, inside, at_word, plain, is_true, check, primitive}
+use Rattle.core_form.specs.State.{State as Life, first_of_values}
+use Rattle.core_form.specs.Force.{Vals, is_true, check}
+use Rattle.core_form.specs.Primitives.{primitive}
+use Rattle.core_form.specs.Step.{Around, inside, at_word, plain}
+use Rattle.core_form.specs.Run.{Outcome, Gives, Fails, NotYet, Leaves, Run, and_then, ◌>>=◌, ◌>>◌, perform, pure}
 use Rattle.core_form.specs.Eval.{Call, eval, args}
 use Rattle.core_form.specs.Everything.{everything}
 use Rattle.rv_isa.specs.Machine.{Space, State}
@@ -70,7 +73,7 @@ unfolding everything
 first_then (Gives vs l) f = refl
 first_then (Fails x p l) f = refl
 first_then (NotYet l) f = refl
-first_then (Strays l) f = refl
+first_then (Leaves x l) f = refl
 
 one_then : (o : Outcome Vals) (f : Vals → Run Vals) →
     and_then (and_then (and_then o (λ (vs : Vals). pure (first_of_values vs))) (λ (v : Val). pure [] >>= (λ (vs : Vals). pure (v ∷ vs)))) f ≡
@@ -79,7 +82,7 @@ unfolding everything
 one_then (Gives vs l) f = refl
 one_then (Fails x p l) f = refl
 one_then (NotYet l) f = refl
-one_then (Strays l) f = refl
+one_then (Leaves x l) f = refl
 
 pub ready_spent : (m0 : ℕ → ℕ) (s : State) (l : Life) → Ready m0 s l → Ready m0 s (spent l)
 ready_spent m0 s l r = record { good = r.good; output_is = r.output_is; input_is = r.input_is; chars = r.chars }
@@ -95,17 +98,17 @@ module _ (space : Space) (places : ℕ → Option Place) (m0 : ℕ → ℕ) (cal
       let k : length (code ++ check_slots p) ≡ length code + 6 = length-append code (check_slots p) in
       let mid = s.pc + 4 * length code in
       let pc = s.pc + 4 * length (code ++ check_slots p) in
-      let next : Vals → Run Vals = λ (vs : Vals). check cx p (Named name.Character) (first_of_values vs) >> pure vs in
-      visited space places m0 cx (eval call limit (at_word cx.word cx) e >>= next) s l pc before
-      (bound space places m0 first_of_values first_of_values s mid pc before 16 (eval call limit (at_word cx.word cx) e (spent l)) next
-      (ih (at_word cx.word cx) s (spent l) (before + 16) (ready_spent m0 s l r) (stands_first space places s.pc code (check_slots p) st) (omega (arith, k)) (omega (arith, k)) (omega arith))
+      let next : Vals → Run Vals = λ (vs : Vals). perform (check cx.force p (Named name.Character) (first_of_values vs)) >> pure vs in
+      visited space places m0 cx (eval call limit (at_word cx.text.word cx) e >>= next) s l pc before
+      (bound space places m0 first_of_values first_of_values s mid pc before 16 (eval call limit (at_word cx.text.word cx) e (spent l)) next
+      (ih (at_word cx.text.word cx) s (spent l) (before + 16) (ready_spent m0 s l r) (stands_first space places s.pc code (check_slots p) st) (omega (arith, k)) (omega (arith, k)) (omega arith))
       (λ (t : State) (j : ℕ) (vs : Vals) (l' : Life) (came : Came m0 t mid (first_of_values vs) (j + (before + 16)) l').
       let at : t.pc + 24 ≡ pc = (let a = came.at in omega (arith, k, a)) in
       let st' : Stand space places t.pc (check_slots p) =
       subst (λ (n : ℕ). Stand space places n (check_slots p)) (sym came.at) (stands_then space places s.pc code (check_slots p) st) in
       let low : t.pc < 2 ^ 30 = (let a = came.at in omega (arith, k, a)) in
       let pace' : j + before + 16 ≤ 16 * l'.counts.cost = (let a = came.pace in omega (arith, a)) in
-      subst (λ (n : ℕ). Tracks space places m0 first_of_values t n (j + before) ((check cx p (Named name.Character) (first_of_values vs) >> pure vs) l')) at
+      subst (λ (n : ℕ). Tracks space places m0 first_of_values t n (j + before) ((perform (check cx.force p (Named name.Character) (first_of_values vs)) >> pure vs) l')) at
       (checked space places m0 cx p (first_of_values vs) vs refl came.legal t l' (j + before) came.ready came.a0 st' low pace')))
 
   pub write_node : (p : Place) (e : Core) → NodeDoes e → NodeDoes (Primitive p op.WriteChar (core e no_core))
@@ -116,7 +119,7 @@ module _ (space : Space) (places : ℕ → Option Place) (m0 : ℕ → ℕ) (cal
       let k : length (code ++ rest) ≡ length code + 9 = length-append code rest in
       let mid = s.pc + 4 * length code in
       let pc = s.pc + 4 * length (code ++ rest) in
-      let act = primitive cx p op.WriteChar in
+      let act : Vals → Run Vals = λ (vs : Vals). perform (primitive cx.force p op.WriteChar vs) in
       let next : Vals → Run Vals = λ (vs : Vals). act (first_of_values vs ∷ []) in
       let o = eval call limit (at_word false cx) e (spent l) in
       visited space places m0 cx (args call limit (at_word false cx) (core e no_core) >>= act) s l pc before
@@ -138,8 +141,8 @@ module _ (space : Space) (places : ℕ → Option Place) (m0 : ℕ → ℕ) (cal
   unfolding everything
   read_node p p1 p2 p3 cx s l before r st far near pace =
       let es = core (Quote p1 nil) (core (Quote p2 nil) (core (Quote p3 nil) no_core)) in
-      visited space places m0 cx (args call limit (at_word false cx) es >>= primitive cx p op.ReadChar) s l (s.pc + 32) before
-      (read_tracks space places m0 p s _ before l.input refl r.chars
+      visited space places m0 cx (args call limit (at_word false cx) es >>= (λ (vs : Vals). perform (primitive cx.force p op.ReadChar vs))) s l (s.pc + 32) before
+      (read_tracks space places m0 cx.force p s _ before l.input refl r.chars
       (record { good = r.good; output_is = r.output_is; input_is = r.input_is; chars = r.chars }) st (omega arith) (omega arith))
 
   -- the rest of an IF, where its first part has given a value

@@ -5,17 +5,20 @@ use Rattle.std.specs.Prelude.{◌≡◌, ℕ, zero, suc, ◌+◌, ◌^◌, ◌<�
 use Rattle.std.proofs.lemmas.Bool.Decides.{nat_tests}
 use Rattle.std.specs.declared.vec.Vec.{Vec}
 use Rattle.std.specs.declared.alloc.Global.{Global}
+use Rattle.std.specs.Prelude.{Box}
+use Rattle.lisp_base.specs.declared.types.TypeSpec.{TypeSpec}
+use Rattle.lisp_base.specs.Reading.{spec_of}
 use Rattle.lisp_base.specs.declared.primitives.Primitive.{Primitive as Operation}
 use Rattle.lisp_base.specs.declared.primitives.Primitive.TheVariants as op
 use Rattle.core_form.specs.declared.tree.Core.{Core as Core'}
 use Rattle.core_form.specs.declared.tree.Form.TheVariants as variant
-use Rattle.core_form.specs.Tree.{Core, Progn, Primitive, Cores, no_core, core}
+use Rattle.core_form.specs.Tree.{Core, If, Progn, Primitive, The, Cores, no_core, core}
 use Rattle.core_form.specs.declared.tree.TopForm.{TopForm}
 use Rattle.core_form.specs.Reading.{form_of, core_of, cores_list, tops_of}
 use Rattle.core_form.specs.Laws.{ReadsProgn, ReadsPrimitive}
 use Rattle.compiler.specs.declared.slot.Slot.{Slot}
-use Rattle.compiler.specs.Templates.{nil_slots, check_slots, write_slots}
-use Rattle.compiler.specs.Code.{code_of, sequence_of, codes_of, is_served, are_served, forms_served, is_one, is_file}
+use Rattle.compiler.specs.Templates.{nil_slots, check_slots, write_slots, if_slots, test_slots, skip}
+use Rattle.compiler.specs.Code.{code_of, sequence_of, codes_of, is_served, are_served, forms_served, is_one, is_file, is_character_type}
 use Rattle.compiler.proofs.Nodes.{and_left, and_right}
 
 -- ---- lists of parts
@@ -96,6 +99,48 @@ some_sequence (c ∷ cs) n h = sym (sequence_is (core_of c) (cores_list cs))
 pub some_progn : ReadsProgn → (c : Core') (v : Vec Core' Global) (parts : List Core') → c.form ≡ variant.Progn v → parts ≡ v.items → (length v.items == 0) ≡ false → codes_of (cores_list parts) ≡ code_of (core_of c)
 some_progn reads c v parts h e some =
     (ap (λ (xs : List Core'). codes_of (cores_list xs)) e ∙ some_sequence v.items 0 some) ∙ ap code_of (sym (is_progn reads c v h))
+
+-- ---- IF and THE
+
+pub record PartServed (c : Core') : Type 0 where
+  pub served : is_served (core_of c) ≡ true
+  pub near : length (code_of (core_of c)) < 2 ^ 18
+
+is_if : (c : Core') (x y z : Box Core' Global) → c.form ≡ variant.If x y z → core_of c ≡ If c.place (core_of x.value) (core_of y.value) (core_of z.value)
+is_if c x y z h = ap (form_of c.place) h
+
+third_shorter : (a b c : List Slot) → length c ≤ length (if_slots a b c)
+third_shorter a b c =
+    let rest = skip (length c) ∷ c in
+    let k1 = length-append a (test_slots (length b) ++ (b ++ rest)) in
+    let k2 = length-append (test_slots (length b)) (b ++ rest) in
+    let k3 = length-append b rest in
+    omega (arith, k1, k2, k3)
+
+pub last_part : (c : Core') (x y z : Box Core' Global) (d : Core') → c.form ≡ variant.If x y z → d ≡ z.value → is_served (core_of c) ≡ true → length (code_of (core_of c)) < 2 ^ 18 → PartServed d
+last_part c x y z d h e served near =
+    let k = is_if c x y z h in
+    let a = is_served (core_of x.value) in
+    let b = is_served (core_of y.value) in
+    let l = is_served (core_of z.value) in
+    let all : (a && (b && l)) ≡ true = ap is_served (sym k) ∙ served in
+    let n : length (if_slots (code_of (core_of x.value)) (code_of (core_of y.value)) (code_of (core_of z.value))) < 2 ^ 18 =
+    subst (λ (w : Core). length (code_of w) < 2 ^ 18) k near in
+    let m = third_shorter (code_of (core_of x.value)) (code_of (core_of y.value)) (code_of (core_of z.value)) in
+    subst PartServed (sym e) (record { served = and_right b l (and_right a (b && l) all); near = omega (arith, n, m) })
+
+is_the : (c : Core') (t : TypeSpec) (x : Box Core' Global) → c.form ≡ variant.The t x → core_of c ≡ The c.place (spec_of t) (core_of x.value)
+is_the c t x h = ap (form_of c.place) h
+
+pub checked_part : (c : Core') (t : TypeSpec) (x : Box Core' Global) (d : Core') → c.form ≡ variant.The t x → d ≡ x.value → is_served (core_of c) ≡ true → length (code_of (core_of c)) < 2 ^ 18 → PartServed d
+checked_part c t x d h e served near =
+    let k = is_the c t x h in
+    let a = is_served (core_of x.value) in
+    let b = is_character_type (spec_of t) in
+    let all : (is_file c.place && (b && a)) ≡ true = ap is_served (sym k) ∙ served in
+    let n : length (code_of (core_of x.value) ++ check_slots c.place) < 2 ^ 18 = subst (λ (w : Core). length (code_of w) < 2 ^ 18) k near in
+    let m = length-append (code_of (core_of x.value)) (check_slots c.place) in
+    subst PartServed (sym e) (record { served = and_right b a (and_right (is_file c.place) (b && a) all); near = omega (arith, n, m) })
 
 -- ---- WRITE-CHAR
 

@@ -1,13 +1,15 @@
 -- The code of a program, form by form, does what the program means.
 use Rattle.std.proofs.Common.{refl, sym, ap, subst, ◌∙◌, arith, length-append}
-use Rattle.std.specs.Prelude.{◌≡◌, ℕ, ◌+◌, ◌*◌, ◌^◌, ◌<◌, ◌≤◌, true, List, [], ◌∷◌, ◌++◌, length, reverse, Option, Some}
+use Rattle.std.specs.Prelude.{◌≡◌, ℕ, ◌+◌, ◌*◌, ◌^◌, ◌<◌, ◌≤◌, max, true, List, [], ◌∷◌, ◌++◌, length, reverse, Option, Some}
 use Rattle.lisp_base.specs.declared.values.Val.{Val}
 use Rattle.lisp_base.specs.declared.values.Place.{Place}
-use Rattle.lisp_base.specs.Membership.{SymbolKind}
 use Rattle.lisp_base.specs.Sort.{nil}
 use Rattle.core_form.specs.Tree.{Top}
-use Rattle.core_form.specs.State.{State as Life, Fault, Outcome, Gives, Fails, NotYet, Strays, Run, and_then, first_of_values, box_all, all_big, ◌>>◌, pure}
-use Rattle.core_form.specs.Step.{Vals}
+use Rattle.core_form.specs.Facts.{facts_of, functions_in}
+use Rattle.core_form.specs.State.{Symbol, State as Life, Fault, first_of_values, all_big}
+use Rattle.core_form.specs.Effect.{box_all}
+use Rattle.core_form.specs.Force.{Vals, symbol_kinds_of}
+use Rattle.core_form.specs.Run.{Outcome, Gives, Fails, NotYet, Leaves, Run, and_then, ◌>>◌, perform, pure, back_in}
 use Rattle.core_form.specs.Eval.{Call, eval, run_forms, at_top}
 use Rattle.core_form.specs.Everything.{everything}
 use Rattle.rv_isa.specs.declared.ending.Ending.{Ending}
@@ -30,39 +32,45 @@ itself v = v
 abbrev boxed : Vals → Life → Life
 boxed vs l = record l { counts = record l.counts { cost = l.counts.cost + 2 * all_big vs; heap_words = l.counts.heap_words + 2 * all_big vs } }
 
--- what a form gives is counted, and its first value goes on
-form_then : (o : Outcome Vals) (f : Val → Run Val) →
-    and_then (and_then (and_then o (λ (vs : Vals). box_all vs >> pure vs)) (λ (vs : Vals). pure (first_of_values vs))) f ≡
-    and_then o (λ (vs : Vals). λ (l : Life). f (first_of_values vs) (boxed vs l))
-unfolding everything
-form_then (Gives vs l) f = refl
-form_then (Fails x p l) f = refl
-form_then (NotYet l) f = refl
-form_then (Strays l) f = refl
+-- the state after a form: what it gave is counted, and the variables are those of before
+abbrev after_form : List (ℕ × Val) → Vals → Life → Life
+after_form old vs l = record (boxed vs l) { frame = old }
 
-module _ (space : Space) (places : ℕ → Option Place) (m0 : ℕ → ℕ) (call : Call) (limit : ℕ) (symbols : SymbolKind) where
-  forms_track : (ts : List Top) → forms_served ts ≡ true → (v : Val) → Legal v → (s : State) (l : Life) (before : ℕ) → Ready m0 s l → s.registers 10 ≡ word_of_value v →
+-- a form gives its values back, and its first value goes on
+form_then : (space : Space) (places : ℕ → Option Place) (m0 : ℕ → ℕ) (s : State) (pc before : ℕ) (old : List (ℕ × Val)) (o : Outcome Vals) (f : Val → Run Val) →
+    Tracks space places m0 itself s pc before (and_then o (λ (vs : Vals). λ (l : Life). f (first_of_values vs) (after_form old vs l))) →
+    Tracks space places m0 itself s pc before (and_then (and_then (back_in old (and_then o (λ (vs : Vals). perform (box_all vs) >> pure vs))) (λ (vs : Vals). pure (first_of_values vs))) f)
+unfolding everything
+form_then space places m0 s pc before old (Gives vs l) f r = r
+form_then space places m0 s pc before old (Fails x p l) f r = r
+form_then space places m0 s pc before old (NotYet l) f r = absurd r
+form_then space places m0 s pc before old (Leaves x l) f r = absurd r
+
+module _ (space : Space) (places : ℕ → Option Place) (m0 : ℕ → ℕ) (call : Call) (limit : ℕ) (symbols : List Symbol) where
+  forms_track : (k : ℕ) (ts : List Top) → forms_served ts ≡ true → (v : Val) → Legal v → (s : State) (l : Life) (before : ℕ) → Ready m0 s l → s.registers 10 ≡ word_of_value v →
       Stand space places s.pc (forms_code ts) → s.pc + 4 * length (forms_code ts) < 2 ^ 30 → 4 * length (forms_code ts) < 2 ^ 20 → before ≤ 16 * l.counts.cost →
-      Tracks space places m0 itself s (s.pc + 4 * length (forms_code ts)) before (run_forms call limit symbols ts v l)
+      Tracks space places m0 itself s (s.pc + 4 * length (forms_code ts)) before (run_forms call limit symbols k ts v l)
   unfolding everything
-  forms_track [] h v legal s l before r a0 st far near pace = record {
+  forms_track n [] h v legal s l before r a0 st far near pace = record {
     t = s;
     j = 0;
     path = refl;
     came = record { ready = r; at = omega arith; a0 = a0; legal = legal; pace = omega arith };
   }
-  forms_track (t ∷ ts) h v legal s l before r a0 st far near pace =
+  forms_track n (t ∷ ts) h v legal s l before r a0 st far near pace =
       let code = code_of t.core in
       let rest = forms_code ts in
       let k : length (code ++ rest) ≡ length code + length rest = length-append code rest in
       let mid = s.pc + 4 * length code in
       let pc = s.pc + 4 * length (code ++ rest) in
-      let l1 : Life = record l { counts = record l.counts { begun = l.counts.begun + t.nodes; stack_words = _ } } in
-      let o = eval call limit (at_top symbols t) t.core l1 in
-      let next : Vals → Run Val = λ (vs : Vals). λ (l' : Life). run_forms call limit symbols ts (first_of_values vs) (boxed vs l') in
-      subst (λ (x : Outcome Val). Tracks space places m0 itself s pc before x) (sym (form_then o (run_forms call limit symbols ts)))
+      let cx = at_top symbols (facts_of (symbol_kinds_of symbols) n t) in
+      let further = n + length (functions_in t.core) in
+      let l1 : Life = record l { counts = record l.counts { begun = l.counts.begun + t.nodes; stack_words = max l.counts.stack_words cx.force.words }; frame = [] } in
+      let o = eval call limit cx t.core l1 in
+      let next : Vals → Run Val = λ (vs : Vals). λ (l' : Life). run_forms call limit symbols further ts (first_of_values vs) (after_form l.frame vs l') in
+      form_then space places m0 s pc before l.frame o (run_forms call limit symbols further ts)
       (bound space places m0 first_of_values itself s mid pc before 0 o next
-      (node_does space places m0 call limit t.core (and_left (is_served t.core) (forms_served ts) h) (at_top symbols t) s l1 (before + 0)
+      (node_does space places m0 call limit t.core (and_left (is_served t.core) (forms_served ts) h) cx s l1 (before + 0)
       (record { good = r.good; output_is = r.output_is; input_is = r.input_is; chars = r.chars })
       (stands_first space places s.pc code rest st) (omega (arith, k)) (omega (arith, k)) (omega arith))
       (λ (t' : State) (j : ℕ) (vs : Vals) (l' : Life) (came : Came m0 t' mid (first_of_values vs) (j + (before + 0)) l').
@@ -70,7 +78,7 @@ module _ (space : Space) (places : ℕ → Option Place) (m0 : ℕ → ℕ) (cal
       let st' = subst (λ (n : ℕ). Stand space places n rest) (sym came.at) (stands_then space places s.pc code rest st) in
       let ready = came.ready in
       subst (λ (n : ℕ). Tracks space places m0 itself t' n (j + before) (next vs l')) at
-      (forms_track ts (and_right (is_served t.core) (forms_served ts) h) (first_of_values vs) came.legal t' (boxed vs l') (j + before)
+      (forms_track further ts (and_right (is_served t.core) (forms_served ts) h) (first_of_values vs) came.legal t' (after_form l.frame vs l') (j + before)
       (record { good = ready.good; output_is = ready.output_is; input_is = ready.input_is; chars = ready.chars }) came.a0 st'
       (let a = came.at in omega (arith, k, a)) (omega (arith, k)) (let a = came.pace in omega (arith, a)))))
 
@@ -92,7 +100,7 @@ abbrev pub Ends : Space → (ℕ → Option Place) → (ℕ → ℕ) → State �
 Ends space places m0 s (Gives v l) = Finishes space m0 s v l
 Ends space places m0 s (Fails f p l) = Breaks space places m0 s f p l
 Ends space places m0 s (NotYet l) = ⊥
-Ends space places m0 s (Strays l) = ⊥
+Ends space places m0 s (Leaves x l) = ⊥
 
 -- from the second instruction on
 ends_of : (space : Space) (places : ℕ → Option Place) (m0 : ℕ → ℕ) (s t : State) (pc : ℕ) (o : Outcome Val) → Path space (Good m0) 1 s t →
@@ -124,12 +132,12 @@ ends_of space places m0 s t pc (Fails f p l) first r st =
       pace = (let k = r.pace in omega (arith, k));
     }
 ends_of space places m0 s t pc (NotYet l) first r st = absurd r
-ends_of space places m0 s t pc (Strays l) first r st = absurd r
+ends_of space places m0 s t pc (Leaves x l) first r st = absurd r
 
-pub program_ends : (space : Space) (places : ℕ → Option Place) (m0 : ℕ → ℕ) (call : Call) (limit : ℕ) (symbols : SymbolKind) (ts : List Top) → forms_served ts ≡ true →
+pub program_ends : (space : Space) (places : ℕ → Option Place) (m0 : ℕ → ℕ) (call : Call) (limit : ℕ) (symbols : List Symbol) (n : ℕ) (ts : List Top) → forms_served ts ≡ true →
     (s : State) (l : Life) → Ready m0 s l → s.pc ≡ 65536 → Stand space places 65536 (program_code ts) → 4 * length (program_code ts) < 2 ^ 20 →
-    Ends space places m0 s (run_forms call limit symbols ts nil l)
-program_ends space places m0 call limit symbols ts h s l r at st near =
+    Ends space places m0 s (run_forms call limit symbols n ts nil l)
+program_ends space places m0 call limit symbols n ts h s l r at st near =
     let code = forms_code ts in
     let k : length (code ++ end_slots) ≡ length code + 2 = length-append code end_slots in
     let st0 = subst (λ (n : ℕ). Stand space places n (program_code ts)) (sym at) st in
@@ -137,8 +145,8 @@ program_ends space places m0 call limit symbols ts h s l r at st near =
     let rest : Stand space places (s.pc + 4) (code ++ end_slots) = st0.2 in
     let rest' = subst (λ (n : ℕ). Stand space places n (code ++ end_slots)) (sym a.pc_is) rest in
     let e = a.pc_is in
-    ends_of space places m0 s a.t (a.t.pc + 4 * length code) (run_forms call limit symbols ts nil l) a.path
-    (forms_track space places m0 call limit symbols ts h nil (omega arith) a.t l 0
+    ends_of space places m0 s a.t (a.t.pc + 4 * length code) (run_forms call limit symbols n ts nil l) a.path
+    (forms_track space places m0 call limit symbols n ts h nil (omega arith) a.t l 0
     (record { good = a.good; output_is = a.output_is; input_is = a.input_is; chars = r.chars }) a.a0_is
     (stands_first space places a.t.pc code end_slots rest') (omega (arith, k, e, at)) (omega (arith, k)) (omega arith))
     (stands_then space places a.t.pc code end_slots rest')

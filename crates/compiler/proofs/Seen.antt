@@ -6,8 +6,7 @@ use Rattle.lisp_base.specs.declared.values.Val.{Val}
 use Rattle.lisp_base.specs.declared.values.Val.TheVariants.{Int, Char, Sym, Ref}
 use Rattle.lisp_base.specs.Sort.{number_of}
 use Rattle.lisp_base.specs.Seen.{Tree, Bad, Number, Letter}
-use Rattle.core_form.specs.State.{Object}
-use Rattle.core_form.specs.Eval.{Symbol}
+use Rattle.core_form.specs.State.{Object, Symbol}
 use Rattle.core_form.specs.Seen.{symbol_tree}
 use Rattle.object_model.specs.Tags.{is_character}
 use Rattle.object_model.specs.Words.{character_word}

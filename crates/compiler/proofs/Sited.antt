@@ -58,6 +58,7 @@ mutual
       let h' = and_right (is_file p) (is_character_type t && is_served e) h in
       all_of (code_of e) (check_slots p) (code_in_file e (and_right (is_character_type t) (is_served e) h'))
       (check_in_file p (and_left (is_file p) (is_character_type t && is_served e) h))
+  code_in_file _ h = absurd (cc)
 
   sequence_in_file : (es : Cores) → are_served es ≡ true → AllInFile (sequence_of es)
   sequence_in_file no_core h = (tt, tt)

@@ -8,8 +8,10 @@ use Rattle.lisp_base.specs.declared.values.Place.{Place}
 use Rattle.lisp_base.specs.declared.values.Place.TheVariants as places
 use Rattle.lisp_base.specs.declared.types.TypeName.TheVariants as name
 use Rattle.lisp_base.specs.Spec.{Spec, Named}
-use Rattle.core_form.specs.State.{State as Life, Fault, TypeError, Index, Overflow, ZeroDivide, Unbound, Undefined, Arguments, Control, EndOfFile, Simple, Outcome, Gives, Fails, NotYet, Strays, work}
-use Rattle.core_form.specs.Eval.{Program, Symbol, evaluate, start, no_call, symbol_kinds, output_of, counts_of, ending_of}
+use Rattle.core_form.specs.State.{State as Life, Fault, TypeError, Index, Overflow, ZeroDivide, Unbound, Undefined, Arguments, Control, EndOfFile, Simple, work, Symbol}
+use Rattle.core_form.specs.Facts.{functions_count}
+use Rattle.core_form.specs.Run.{Outcome, Gives, Fails, NotYet, Leaves}
+use Rattle.core_form.specs.Eval.{Program, evaluate, start, call_to, table_of, output_of, counts_of, ending_of}
 use Rattle.core_form.specs.Everything.{everything}
 use Rattle.debug_info.specs.declared.rows.SitePlace.{SitePlace}
 use Rattle.debug_info.specs.declared.rows.SitePlace.TheVariants as site
@@ -111,7 +113,7 @@ module _ (p : Program) (names : BeginsWithNames p.symbols) where
   over_of space s (Gives v l) r = record { j = r.j; e = ending.Value (word_of_value v); halts = r.halts; alike = value_seen p.symbols names l.store v r.legal; pace = r.pace }
   over_of space s (Fails f place l) r = record { j = r.j; e = r.e; halts = r.halts; alike = shown_alike f place r.e l r.shows; pace = r.pace }
   over_of space s (NotYet l) r = absurd r
-  over_of space s (Strays l) r = absurd r
+  over_of space s (Leaves x l) r = absurd r
 
   module _ (served : forms_served p.forms ≡ true) (near : 4 * length (program_code p.forms) < 2 ^ 20) (heap stack : ℕ) (sizes : AreSizes heap stack) (input : List ℕ) (chars : AreChars input) where
     abbrev space : Space
@@ -131,7 +133,7 @@ module _ (p : Program) (names : BeginsWithNames p.symbols) where
     over : (n : ℕ) → Over p Image space first (evaluate p input n)
     unfolding everything
     over n = over_of space first (evaluate p input n)
-        (program_ends space (found_place Rows) first_memory no_call n (symbol_kinds p.symbols) p.forms served first (start p input) ready refl
+        (program_ends space (found_place Rows) first_memory (call_to (table_of p) n n) n p.symbols (functions_count p.prelude) p.forms served first (start p input) ready refl
         (code_stands space (program_code p.forms) refl (program_encodes p.forms served near) (program_in_file p.forms served)) near)
 
     -- each state is before the end, and still, or the last one
@@ -185,7 +187,7 @@ module _ (p : Program) (names : BeginsWithNames p.symbols) where
     where_ended (Gives v l) P h = h
     where_ended (Fails f q l) P h = h
     where_ended (NotYet l) P h = tt
-    where_ended (Strays l) P h = h
+    where_ended (Leaves x l) P h = h
 
     reached_at : (o : Outcome Val) (v : Over p Image space first o) (k : ℕ) → v.j ≤ k → Reached p Image (steps space k first) o
     reached_at o v k long = elim (before_or_end o v k) [

@@ -5,7 +5,8 @@ use Rattle.lisp_base.specs.declared.values.Val.{Val}
 use Rattle.lisp_base.specs.declared.values.Place.{Place}
 use Rattle.lisp_base.specs.declared.types.TypeName.TheVariants as name
 use Rattle.lisp_base.specs.Spec.{Spec, Named}
-use Rattle.core_form.specs.State.{State as Life, Fault, TypeError, Index, Overflow, ZeroDivide, Unbound, Undefined, Arguments, Control, EndOfFile, Simple, Outcome, Gives, Fails, NotYet, Strays, Run, and_then, first_of_values}
+use Rattle.core_form.specs.State.{State as Life, Fault, TypeError, Index, Overflow, ZeroDivide, Unbound, Undefined, Arguments, Control, EndOfFile, Simple, first_of_values}
+use Rattle.core_form.specs.Run.{Outcome, Gives, Fails, NotYet, Leaves, Run, and_then}
 use Rattle.rv_isa.specs.declared.ending.Ending.{Ending}
 use Rattle.rv_isa.specs.declared.ending.Ending.TheVariants as ending
 use Rattle.rv_isa.specs.Machine.{Space, State}
@@ -70,7 +71,7 @@ module _ (space : Space) (places : ℕ → Option Place) (m0 : ℕ → ℕ) wher
   Tracks value s pc before (Gives a l) = Arrives space m0 s pc (value a) before l
   Tracks value s pc before (Fails f p l) = Stops space places m0 s before f p l
   Tracks value s pc before (NotYet l) = ⊥
-  Tracks value s pc before (Strays l) = ⊥
+  Tracks value s pc before (Leaves x l) = ⊥
 
   -- some steps first
   pub led : {A : Type 0} (value : A → Val) (j : ℕ) (s t : State) (pc before : ℕ) (o : Outcome A) → Path space (Good m0) j s t →
@@ -89,7 +90,7 @@ module _ (space : Space) (places : ℕ → Option Place) (m0 : ℕ → ℕ) wher
     pace = (let k = r.pace in omega (arith, k));
   }
   led value j s t pc before (NotYet l) p r = absurd r
-  led value j s t pc before (Strays l) p r = absurd r
+  led value j s t pc before (Leaves x l) p r = absurd r
 
   -- fewer steps before
   pub eased : {A : Type 0} (value : A → Val) (s : State) (pc before more : ℕ) (o : Outcome A) →
@@ -102,7 +103,7 @@ module _ (space : Space) (places : ℕ → Option Place) (m0 : ℕ → ℕ) wher
   }
   eased value s pc before more (Fails f q l) r = record { j = r.j; e = r.e; halts = r.halts; shows = r.shows; pace = (let k = r.pace in omega (arith, k)) }
   eased value s pc before more (NotYet l) r = absurd r
-  eased value s pc before more (Strays l) r = absurd r
+  eased value s pc before more (Leaves x l) r = absurd r
 
   -- what is left to show where a part gave a value: `more` steps were counted before it that were not taken
   abbrev pub Onward : {A B : Type 0} → (A → Val) → (B → Val) → ℕ → ℕ → ℕ → ℕ → (A → Run B) → Type 0
@@ -117,7 +118,7 @@ module _ (space : Space) (places : ℕ → Option Place) (m0 : ℕ → ℕ) wher
   bound value value' s mid pc before more (Fails x p l) f r next =
       record { j = r.j; e = r.e; halts = r.halts; shows = r.shows; pace = (let k = r.pace in omega (arith, k)) }
   bound value value' s mid pc before more (NotYet l) f r next = absurd r
-  bound value value' s mid pc before more (Strays l) f r next = absurd r
+  bound value value' s mid pc before more (Leaves x l) f r next = absurd r
 
   -- a stretch of instructions that neither writes nor reads
   pub as_ready : (k : ℕ) (s : State) (pc : ℕ) (v : Val) (l : Life) → Ready m0 s l → Comes space m0 k s pc v s.output s.input →
@@ -170,7 +171,7 @@ module _ (space : Space) (places : ℕ → Option Place) (m0 : ℕ → ℕ) wher
   trailing value k s mid pc before (Fails f q l) r next =
       record { j = r.j; e = r.e; halts = r.halts; shows = r.shows; pace = (let p = r.pace in omega (arith, p)) }
   trailing value k s mid pc before (NotYet l) r next = absurd r
-  trailing value k s mid pc before (Strays l) r next = absurd r
+  trailing value k s mid pc before (Leaves x l) r next = absurd r
 
   -- These instructions do what m does. Where `spare` instructions more are counted before, their pace is kept too.
   abbrev pub Does : ℕ → List Slot → Run (List Val) → Type 0

@@ -8,7 +8,9 @@ use Rattle.lisp_base.specs.Spec.{Spec}
 use Rattle.lisp_base.specs.Sort.{nil}
 use Rattle.core_form.specs.Tree.{Core, Quote, If, Progn, Primitive, The, Cores, no_core, core}
 use Rattle.core_form.specs.State.{State as Life, first_of_values}
-use Rattle.core_form.specs.Step.{Vals, Around, at_word, one}
+use Rattle.core_form.specs.Force.{Vals, one}
+use Rattle.core_form.specs.Step.{Around, at_word}
+use Rattle.core_form.specs.Run.{perform}
 use Rattle.core_form.specs.Eval.{Call, eval, progn}
 use Rattle.core_form.specs.Everything.{everything}
 use Rattle.rv_isa.specs.Machine.{Space, State}
@@ -22,10 +24,7 @@ use Rattle.compiler.proofs.Nodes.{and_left, and_right, character_type, ready_spe
 -- a quoted NIL, and the first of some
 nil_form : (e : Core) → is_nil_form e ≡ true → (p : Place) × (e ≡ Quote p nil)
 nil_form (Quote p v) h = (p, ap (λ (x : Val). Quote p x) (nil_value v h))
-nil_form (If p a b c) h = absurd (cc)
-nil_form (Progn p es) h = absurd (cc)
-nil_form (Primitive p q es) h = absurd (cc)
-nil_form (The p t e) h = absurd (cc)
+nil_form _ h = absurd (cc)
 
 first_nil : (n : ℕ) (es : Cores) → are_nil_forms (suc n) es ≡ true → (p : Place) × (rest : Cores) × (es ≡ core (Quote p nil) rest) × (are_nil_forms n rest ≡ true)
 first_nil n no_core h = absurd (cc)
@@ -44,7 +43,7 @@ module _ (space : Space) (places : ℕ → Option Place) (m0 : ℕ → ℕ) (cal
   quote_node : (p : Place) (v : Val) → is_served (Quote p v) ≡ true → NodeDoes space places m0 call limit (Quote p v)
   unfolding everything
   quote_node p v h cx s l before r st far near pace =
-      visited space places m0 cx (one v) s l (s.pc + 4 * length (code_of (Quote p v))) before
+      visited space places m0 cx (perform (one v)) s l (s.pc + 4 * length (code_of (Quote p v))) before
       (constant_tracks space places m0 v h s (spent l) before (ready_spent m0 s l r) st far near (omega arith))
 
   progn_node : (p : Place) (es : Cores) → SequenceDoes es → NodeDoes space places m0 call limit (Progn p es)
@@ -110,6 +109,7 @@ module _ (space : Space) (places : ℕ → Option Place) (m0 : ℕ → ℕ) (cal
         let h' = and_right (is_file p) (is_character_type t && is_served e) h in
         subst (λ (x : Spec). NodeDoes space places m0 call limit (The p x e)) (sym (character_type t (and_left (is_character_type t) (is_served e) h')))
         (the_node space places m0 call limit p e (node_does e (and_right (is_character_type t) (is_served e) h')))
+    node_does _ h = absurd (cc)
 
     pub sequence_does : (es : Cores) → are_served es ≡ true → SequenceDoes es
     sequence_does no_core h = no_sequence

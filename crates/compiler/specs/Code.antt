@@ -45,6 +45,7 @@ abbrev mutual
   code_of (Progn p es) = sequence_of es
   code_of (Primitive p q es) = operation_slots p q (codes_of es)
   code_of (The p t e) = code_of e ++ check_slots p
+  code_of _ = []
 
   pub sequence_of : Cores → List Slot
   sequence_of no_core = nil_slots
@@ -79,10 +80,7 @@ is_nil (Ref o) = false
 
 abbrev pub is_nil_form : Core → Bool
 is_nil_form (Quote p v) = is_nil v
-is_nil_form (If p a b c) = false
-is_nil_form (Progn p es) = false
-is_nil_form (Primitive p q es) = false
-is_nil_form (The p t e) = false
+is_nil_form _ = false
 
 -- so many quoted NILs
 abbrev pub are_nil_forms : ℕ → Cores → Bool
@@ -130,6 +128,7 @@ abbrev mutual
   is_served (Progn p es) = are_served es
   is_served (Primitive p q es) = is_served_call p q es (are_served es)
   is_served (The p t e) = is_file p && (is_character_type t && is_served e)
+  is_served _ = false
 
   pub are_served : Cores → Bool
   are_served no_core = true

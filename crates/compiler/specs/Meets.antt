@@ -9,8 +9,9 @@ use Rattle.lisp_base.specs.declared.values.Place.TheVariants as places
 use Rattle.lisp_base.specs.declared.types.TypeName.TheVariants as name
 use Rattle.lisp_base.specs.Sort.{number_of}
 use Rattle.lisp_base.specs.Spec.{Spec, Named}
-use Rattle.core_form.specs.State.{Fault, TypeError, Index, Overflow, ZeroDivide, Unbound, Undefined, Arguments, Control, EndOfFile, Simple, Object, Outcome, data_of, work, heap_need, stack_need}
-use Rattle.core_form.specs.Eval.{Program, Symbol, program_nodes, evaluate, Ending as End, Value, Failed, Unfinished, Astray, ending_of, output_of, counts_of}
+use Rattle.core_form.specs.State.{Fault, TypeError, Index, Overflow, ZeroDivide, Unbound, Undefined, Arguments, Control, EndOfFile, Simple, Object, data_of, work, heap_need, stack_need, Symbol}
+use Rattle.core_form.specs.Run.{Outcome}
+use Rattle.core_form.specs.Eval.{Program, program_nodes, evaluate, Ending as End, Value, Failed, Unfinished, Astray, ending_of, output_of, counts_of}
 use Rattle.core_form.specs.Seen.{tree_of}
 use Rattle.debug_info.specs.declared.rows.Site.{Site}
 use Rattle.debug_info.specs.declared.rows.SitePlace.{SitePlace}

@@ -6,7 +6,7 @@ use Rattle.lisp_base.specs.declared.values.Place.{Place}
 use Rattle.lisp_base.specs.declared.values.Place.TheVariants as places
 use Rattle.lisp_base.specs.declared.values.SymKind.TheVariants as symbol_kinds
 use Rattle.core_form.specs.Tree.{Top}
-use Rattle.core_form.specs.Eval.{Symbol}
+use Rattle.core_form.specs.State.{Symbol}
 use Rattle.debug_info.specs.declared.rows.SitePlace.TheVariants as site
 use Rattle.debug_info.specs.declared.rows.SiteRow.{SiteRow}
 use Rattle.image.specs.Content.{Content}

@@ -111,6 +111,7 @@ fn node_code(alloc: Global, core: &Core) -> Result<Vec<Slot>, AllocError>
             _ => Ok(Vec::new(alloc)),
         },
         Form::The(_, form) => checked_code(core.place, node_code(alloc, form)?),
+        _ => Ok(Vec::new(alloc)),
     }
 }
 

@@ -1,6 +1,6 @@
 mod Examples
 pub mod ReadingLemmas
+pub mod Lasting
+pub mod Acting
 pub mod Steady
 pub mod Fuel
-pub mod Meant
-pub mod Built

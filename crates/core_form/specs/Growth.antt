@@ -1,6 +1,7 @@
--- What more fuel changes, and what it leaves.
+-- What a later state of a run has over an earlier one, and what more fuel changes and leaves. (This project's own.)
 use Rattle.std.specs.Prelude.{◌≡◌, ℕ, ◌≤◌, List, ◌++◌}
-use Rattle.core_form.specs.State.{Counts, State, Outcome, Gives, Fails, NotYet, Strays, Run}
+use Rattle.core_form.specs.State.{Counts, State}
+use Rattle.core_form.specs.Run.{Outcome, Gives, Leaves, Fails, NotYet}
 use Rattle.core_form.specs.Eval.{state_of}
 
 -- no counter falls
@@ -30,11 +31,6 @@ pub record Shown (a b : State) : Type 0 where
 -- within a higher limit the same ending in the same state, or at least what was shown
 abbrev pub Reaches : {A : Type 0} → Outcome A → Outcome A → Type 0
 Reaches (Gives a s) o = o ≡ Gives a s
+Reaches (Leaves e s) o = o ≡ Leaves e s
 Reaches (Fails x p s) o = o ≡ Fails x p s
 Reaches (NotYet s) o = Shown s (state_of o)
-Reaches (Strays s) o = o ≡ Strays s
-
--- two limits on one stretch of a run, the second at least the first
-pub record Steady {A : Type 0} (m k : Run A) : Type 0 where
-  pub grows : (s : State) → Grows s (state_of (k s))
-  pub reaches : (s : State) → Reaches (m s) (k s)

@@ -1,11 +1,10 @@
--- What is seen of a value of a run: its tree, to a depth.
+-- What is seen of a value of a run: its tree, to a depth. (This project's own.)
 use Rattle.std.specs.Prelude.{◌≡◌, ℕ, zero, suc, List, map, slice_get, Option, Some, None}
 use Rattle.lisp_base.specs.declared.values.Val.{Val}
 use Rattle.lisp_base.specs.declared.values.Val.TheVariants.{Int, Char, Sym, Ref}
 use Rattle.lisp_base.specs.Sort.{number_of, index_of}
 use Rattle.lisp_base.specs.Seen.{Tree, Deep, Bad, Number, Letter, Name, Text, Function, Both, Row, trees}
-use Rattle.core_form.specs.State.{Object, Pair, Vector, Str, Fun, Cell}
-use Rattle.core_form.specs.Eval.{Symbol}
+use Rattle.core_form.specs.State.{Symbol, Object, Pair, Vector, Str, Fun, Cell}
 
 abbrev pub symbol_tree : Option Symbol → Tree
 symbol_tree None = Bad

@@ -1,18 +1,25 @@
--- The state of a run, what is counted, and how a stretch of a run ends.
+-- The state of a run, what is counted, and how a stretch of a run ends. (This project's own; errors after ANSI Common Lisp, chapter 9.)
 use Rattle.std.specs.Prelude.{ℕ, zero, suc, ◌+◌, ◌-◌, ◌*◌, ◌^◌, max, ℤ, pos, negsuc, Bool, ◌&&◌, if◌then◌else◌, int_le, int_lt, List, [], ◌∷◌, Option, Some, None}
 use Rattle.lisp_base.specs.declared.values.SymId.{SymId}
+use Rattle.lisp_base.specs.declared.values.SymKind.{SymKind}
 use Rattle.lisp_base.specs.declared.values.Val.{Val}
 use Rattle.lisp_base.specs.declared.values.Val.TheVariants.{Int, Char, Sym, Ref}
 use Rattle.lisp_base.specs.declared.values.Place.{Place}
 use Rattle.lisp_base.specs.Spec.{Spec}
 use Rattle.lisp_base.specs.Sort.{ObjectKind, ConsObject, VectorObject, StringObject, FunctionObject, CellObject, nil}
 
--- an object of the store; a function holds the values of the variables that it closes over
+-- a symbol: the code points of its name, and what it is
+pub record Symbol : Type 0 where
+  pub name : List ℕ
+  pub kind : SymKind
+
+-- An object of the store. A function has its number among those of the program, and holds what the variables that it closes
+-- over hold; of a variable, block or tagbody that has a cell, the cell.
 pub data Object : Type 0 where
   Pair : (car cdr : Val) → Object
   Vector : List Val → Object
   Str : List ℕ → Object
-  Fun : (lambda : ℕ) → (closed : List Val) → Object
+  Fun : (function : ℕ) → (closed : List Val) → Object
   Cell : Val → Object
 
 abbrev pub kind_of_object : Object → ObjectKind
@@ -84,88 +91,24 @@ pub record State : Type 0 where
   -- the fuel taken so far
   pub taken : ℕ
   pub store : List Object
+  -- what the variables, blocks and tagbodies of the running function hold, by number, the newest first; of one with a cell, the cell
+  pub frame : List (ℕ × Val)
+  -- the number of the next entry of a block, a tagbody or a catch
+  pub next_entry : ℕ
+  -- what the symbols were last given, by number, the newest first; None where one was unbound again
+  pub values : List (ℕ × Option Val)
+  pub functions : List (ℕ × Val)
   -- the characters that are left
   pub input : List ℕ
   -- the characters written, the newest first
   pub output : List ℕ
   pub counts : Counts
 
--- How a stretch of a run ends. `Strays` has no meaning: a tree that is no program comes to it, as by a
--- primitive with a wrong number of arguments. No program does.
-pub data Outcome (A : Type 0) : Type 0 where
-  Gives : A → State → Outcome A
-  Fails : Fault → Place → State → Outcome A
-  NotYet : State → Outcome A
-  Strays : State → Outcome A
-
--- a stretch of a run
-abbrev pub Run : Type 0 → Type 0
-Run A = State → Outcome A
-
-abbrev pub and_then : {A B : Type 0} → Outcome A → (A → Run B) → Outcome B
-and_then (Gives a s) f = f a s
-and_then (Fails x p s) f = Fails x p s
-and_then (NotYet s) f = NotYet s
-and_then (Strays s) f = Strays s
-
-infixl 10 ◌>>=◌
-unfoldable pub ◌>>=◌ : {A B : Type 0} → Run A → (A → Run B) → Run B
-m >>= f = λ s. and_then (m s) f
-
-infixl 10 ◌>>◌
-abbrev pub ◌>>◌ : {A B : Type 0} → Run A → Run B → Run B
-m >> k = m >>= (λ _. k)
-
-unfoldable pub pure : {A : Type 0} → A → Run A
-pure a = λ s. Gives a s
-
-unfoldable pub change : (State → State) → Run (Unit {0})
-change f = λ s. Gives tt (f s)
-
-unfoldable pub read : {A : Type 0} → (State → A) → Run A
-read f = λ s. Gives (f s) s
-
-unfoldable pub fail : {A : Type 0} → Fault → Place → Run A
-fail x p = λ s. Fails x p s
-
-unfoldable pub stop : {A : Type 0} → Run A
-stop = λ s. NotYet s
-
-unfoldable pub stray : {A : Type 0} → Run A
-stray = λ s. Strays s
-
-unfoldable pub take_left : ℕ → Run (Unit {0})
-take_left zero = stop
-take_left (suc n) = change (λ s. record s { taken = suc s.taken })
-
--- one of the fuel, or the end of what can be shown within the limit
-unfoldable pub take_fuel : ℕ → Run (Unit {0})
-take_fuel limit = read (λ s. limit - s.taken) >>= take_left
-
--- ---- counting
-
-unfoldable pub counting : (Counts → Counts) → Run (Unit {0})
-counting f = change (λ s. record s { counts = f s.counts })
-
-unfoldable pub spend : ℕ → Run (Unit {0})
-spend n = counting (λ c. record c { cost = c.cost + n })
-
--- an allocation of so many words
-unfoldable pub allot : ℕ → Run (Unit {0})
-allot n = counting (λ c. record c { cost = c.cost + n; heap_words = c.heap_words + n })
-
-unfoldable pub boxes_more : (all apart : ℕ) → Run (Unit {0})
-boxes_more all apart =
-    counting (λ c. record c { boxes = c.boxes + all; boxes_outside_words = c.boxes_outside_words + apart })
-
-unfoldable pub deliver_more : ℕ → Run (Unit {0})
-deliver_more n = counting (λ c. record c { extra = c.extra + n })
-
-unfoldable pub stack_at : ℕ → Run (Unit {0})
-stack_at n = counting (λ c. record c { stack_words = max c.stack_words n })
-
-unfoldable pub begin : ℕ → Run (Unit {0})
-begin n = counting (λ c. record c { begun = c.begun + n })
+-- an exit on its way to one entry of a block, tagbody or catch: to a tag of it, with values
+pub record Exit : Type 0 where
+  pub entry : ℕ
+  pub tag : ℕ
+  pub values : List Val
 
 -- ---- values
 
@@ -186,7 +129,3 @@ big (Ref o) = 0
 abbrev pub all_big : List Val → ℕ
 all_big [] = 0
 all_big (v ∷ vs) = big v + all_big vs
-
--- 2 words for each integer of these that is outside the fixnums
-unfoldable pub box_all : List Val → Run (Unit {0})
-box_all vs = allot (2 * all_big vs)

@@ -208,3 +208,18 @@ fn faults_of_debug_tables(rt: HostRuntime) -> Result<(), Fail> {
     assert!(rt; is_fault(alloc, &more, 44 + 69, ImageKind::Debug));
     Ok(())
 }
+
+/// Each text that is cut short is Short at its end, whichever field or part the cut leaves incomplete.
+#[test]
+fn each_truncation(rt: HostRuntime) -> Result<(), Fail> {
+    let alloc = rt.alloc();
+    let bytes = with_section(alloc, 0, 1, 69)?;
+    assert!(rt; read(alloc, &bytes).is_ok());
+    for size in 0..bytes.len() {
+        assert!(rt;
+            is_fault(alloc, &bytes[..size], size as u64, ImageKind::Short),
+            "{size}"
+        );
+    }
+    Ok(())
+}

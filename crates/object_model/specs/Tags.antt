@@ -1,9 +1,10 @@
 -- The objects that follow one another in a region of memory, which of them are lawful, and which words are values
 -- (this project's own tagging of 64-bit words).
-use Rattle.std.specs.Prelude.{◌≡◌, ℕ, zero, suc, ◌+◌, ◌-◌, ◌*◌, ◌/◌, ◌%◌, ◌^◌, ◌<◌, ◌≤◌, ◌⊎◌, List, [], ◌∷◌, Bool, false, nat_lt, nat_le, ◌==◌, ◌&&◌, ◌||◌, if◌then◌else◌, IsTrue}
+use Rattle.std.specs.Prelude.{◌≡◌, ℕ, zero, suc, ◌+◌, ◌-◌, ◌*◌, ◌/◌, ◌%◌, ◌^◌, ◌<◌, ◌≤◌, ◌⊎◌, List, [], ◌∷◌, Bool, false, ◌==◌, ◌||◌, if◌then◌else◌, IsTrue}
 use Rattle.object_model.specs.declared.ObjKind.{ObjKind}
 use Rattle.object_model.specs.declared.ObjKind.TheVariants as kind
 use Rattle.object_model.specs.Words.{header_word, character_word, unbound_word, no_function_word}
+pub use Rattle.object_model.specs.Words.{is_character}
 
 -- The lengths of the regions in bytes. They begin at 0x00010000 (code), 0x20000000 (statics), 0x40000000 (heap)
 -- and 0x60000000 (control stack).
@@ -61,10 +62,6 @@ Walk memory a end (o ∷ os) = Begins (word_at memory a) o × Walk memory (a + 8
 abbrev pub Starts : List Object → ℕ → ℕ → Object → Type 0
 Starts [] a p q = ⊥
 Starts (o ∷ os) a p q = ((a ≡ p) × (o ≡ q)) ⊎ Starts os (a + 8 * words_of o) p q
-
--- a character's code point
-abbrev pub is_character : ℕ → Bool
-is_character c = nat_lt c 0xD800 || (nat_le 0xE000 c && nat_lt c 0x110000)
 
 -- A word that may stand where a value stands: a small integer, a character, a marker, or a pointer whose tag fits an
 -- object that starts there.

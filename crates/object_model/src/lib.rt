@@ -1,4 +1,4 @@
-//! The words of tagged values and of object headers, as they stand in registers and memory.
+//! The words of tagged values and of object headers, as they stand in registers and memory, and what is seen of them.
 //!
 //! A word is told by its low bits: 00 a small integer times four, 001, 011 and 111 a pointer to a function, a list cell
 //! or another object, 010 a character or a marker, 110 the header of an object in memory.
@@ -6,6 +6,14 @@
 
 ghost use Rattle.object_model.specs.Words.{character_word, header_word, kind_number};
 ghost use Rattle.std.specs.Prelude.{◌<◌, ◌≡◌, ◌^◌};
+
+mod kinds;
+mod laws;
+mod memory;
+
+pub use kinds::{Header, WordKind, classify, fixnum_word, object_words, read_header};
+pub use laws::{characters_read_back, fixnums_read_back, headers_read_back};
+pub use memory::{MemView, Words};
 
 /// The kinds of objects that begin with a header. An object in memory without a header is a list cell of two words.
 #[derive(Clone, Copy, Debug, PartialEq, Eq, Drop)]
@@ -46,7 +54,7 @@ fn kind_bits(kind: ObjKind) -> u64
     }
 }
 
-/// The header of an object of this kind and length. The unit of the length is the kind's own: values of a vector,
+/// The header of an object of this kind and length, which is below 2^56. The unit of the length is the kind's own: values of a vector,
 /// characters of a string, words after the header of any other kind.
 pub fn header(kind: ObjKind, length: u64) -> u64
     requires { length < 2 ^ 56 }
@@ -56,17 +64,4 @@ pub fn header(kind: ObjKind, length: u64) -> u64
 }
 
 #[cfg(test)]
-mod tests {
-    use super::{ObjKind, char_word, header};
-
-    #[test]
-    fn words_of_the_layout(rt: HostRuntime) {
-        assert_eq!(rt; char_word(97), 24_834);
-        assert_eq!(rt; header(ObjKind::Symbol, 4), 1_078);
-        assert_eq!(rt; header(ObjKind::String, 3), 782);
-        assert_eq!(rt; header(ObjKind::Vector, 0), 6);
-        assert_eq!(rt; header(ObjKind::Boxed, 1), 278);
-        assert_eq!(rt; header(ObjKind::Cell, 1), 286);
-        assert_eq!(rt; header(ObjKind::Function, 1), 294);
-    }
-}
+mod tests;

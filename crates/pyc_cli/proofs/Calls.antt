@@ -13,32 +13,30 @@ use Rattle.pyc_cli.specs.declared.command.Verb.TheVariants as verbs
 use Rattle.pyc_cli.specs.declared.words.WordFault.{WordFault}
 use Rattle.pyc_cli.specs.declared.words.WordFault.TheVariants as words
 use Rattle.pyc_cli.specs.Asked.{IsOutside}
-use Rattle.pyc_cli.specs.Ending.{Ending, Close, told, read_fault, write_fault, memory, status_told, status_of, line_of, value, error, usage, refused, absent, heap, stack, step_limit, bad_image, trap, not_text, too_long}
+use Rattle.pyc_cli.specs.Ending.{Ending, Close, told, read_fault, write_fault, memory, status_told, status_of, line_of, value, error, usage, refused, absent, heap, stack, step_limit, bad_image, trap, not_text, too_long, written}
 use Rattle.pyc_cli.specs.Line.{turned, Finishes}
 use Rattle.pyc_cli.specs.Moved.{PutsAll, is_failed}
 use Rattle.pyc_cli.specs.Order.{Order}
 use Rattle.pyc_cli.specs.Stages.{word_close}
-use Rattle.pyc_cli.specs.Told.{Told, IsSet, TellsGot, TellsRun}
+use Rattle.pyc_cli.specs.Told.{Told, IsSet, TellsFound, TellsSource}
 use Rattle.pyc_cli.specs.Tool.{Ends, Tells, TellsVerb, gets_first, verb_gets_first, AsTold, ChangesOnly, RoseInRead, RoseInWrite, name_set, verb_sets}
-use Rattle.pyc_cli.specs.Work.{Outside, outside, Whole, Works, Early, Late, Does, IsTorn, SetFault, PutFault}
-use Rattle.pyc_cli.proofs.Works.{does_usage}
+use Rattle.pyc_cli.specs.Work.{Outside, outside, Whole, Works, Early, Late, Does, IsTorn, GetFault, TakeFault, SetFault, PutFault}
+use Rattle.pyc_cli.proofs.Works.{does_usage, exec_set, disasm_set}
 
 -- ---- the ends of a call
 
--- a run, asked for by its order
-pub ends_order : (order : Order) (asked : Option Order) (c : Close) (s : Status) (old new : Outside) (err_old err_new : Sunk) → asked ≡ Some order → Does true (TellsRun order) c old new → Finishes c s err_old err_new → Ends asked s old new err_old err_new
+-- a command, asked for by its order
+pub ends_order : (order : Order) (asked : Option Order) (c : Close) (s : Status) (old new : Outside) (err_old err_new : Sunk) → asked ≡ Some order → Does (verb_gets_first order.verb) (λ names left t. TellsVerb order.verb order names left t) c old new → Finishes c s err_old err_new → Ends asked s old new err_old err_new
 ends_order order asked c s old new err_old err_new is does line =
-    let ForVerb : Verb → Type 0 = λ v. Does (verb_gets_first v) (λ names left t. TellsVerb v order names left t) c old new in
     let For : Option Order → Type 0 = λ a. Ends a s old new err_old err_new in
-    let work : ForVerb order.verb = elim order.verb as ForVerb [ verbs.Run ↦ does ] in
-    subst For (sym is) (record { close = c; work = work; line = line })
+    subst For (sym is) (record { close = c; work = does; line = line })
 
 does_outside : (asked : Option Order) (fault : WordFault) (files : Kept) (input : Fed) (out : Sunk) → IsOutside asked fault → Does (gets_first asked) (λ names left t. Tells asked names left t) (word_close fault) (outside files input out) (outside files input out)
 does_outside asked words.Usage files input out is =
     let For : Option Order → Type 0 = λ a. Does (gets_first a) (λ names left t. Tells a names left t) (told usage) (outside files input out) (outside files input out) in
     subst For (sym is) (does_usage files input out)
 does_outside asked words.Memory files input out is = record {
-  work = inl (record { cause = inr refl; files = refl; out = refl });
+  work = inl (record { cause = inr refl; files = refl; input = refl; out = refl });
   later = record { gets = omega arith; sets = omega arith; takes = omega arith; puts = omega arith };
 }
 
@@ -70,6 +68,7 @@ close_read (told (bad_image kind offset)) h = cc
 close_read (told (trap pc)) h = cc
 close_read (told (not_text offset)) h = cc
 close_read (told too_long) h = cc
+close_read (told written) h = cc
 close_read read_fault h = refl
 close_read write_fault h = cc
 close_read memory h = cc
@@ -87,9 +86,13 @@ work_read {gets = gets} {Says = Says} old new does = from does.work
     early (inl h) = h.2
     early (inr h) = cc
 
+    caused : (t : Told) → GetFault t old new ⊎ TakeFault t old new → RoseInRead old new
+    caused t (inl g) = inl g.rose
+    caused t (inr f) = inr f.rose
+
     from : Early gets read_fault old new ⊎ Late Says read_fault old new → RoseInRead old new
     from (inl e) = inl (early {P = gets ≡ true} e.cause)
-    from (inr l) = inr l.works.rose
+    from (inr l) = caused l.told l.works.cause
 
 pub ends_read : (asked : Option Order) (s : Status) (old new : Outside) (err_old err_new : Sunk) → Ends asked s old new err_old err_new → s ≡ status.ReadFault → RoseInRead old new
 ends_read asked s old new err_old err_new ends h =
@@ -117,6 +120,7 @@ close_write (told (bad_image kind offset)) h = cc
 close_write (told (trap pc)) h = cc
 close_write (told (not_text offset)) h = cc
 close_write (told too_long) h = cc
+close_write (told written) h = cc
 close_write read_fault h = cc
 close_write write_fault h = refl
 close_write memory h = cc
@@ -201,14 +205,16 @@ changes_only sets set old new (inr (entry, names, some)) is =
     from (inl h) = changes_looser entry.0 (λ held. held ≡ Some entry.1) old new h
     from (inr h) = h
 
-got_sets : (order : Order) (source : Option (List ℕ)) (left : Option (List ℕ)) (t : Told) → TellsGot order source left t → SetsOnly (Some order.second) t.set
-got_sets order None left t says = inl (ap (λ (u : Told). u.set) says.2)
-got_sets order (Some source) left t (inl says) = inl (ap (λ (u : Told). u.set) says.2.2)
-got_sets order (Some source) left t (inr says) =
-    let set = says.2 in inr ((order.second, says.0), refl, ap (λ (u : Told). u.set) set.2)
+found_sets : (order : Order) (names : Option Names) (held left : Option (List ℕ)) (t : Told) → TellsFound (λ source u. TellsSource order source names left u) order.first held left t → SetsOnly (Some order.second) t.set
+found_sets order names None left t says = inl (ap (λ (u : Told). u.set) says.2)
+found_sets order names (Some source) left t (inl says) = inl (ap (λ (u : Told). u.set) says.2.2)
+found_sets order names (Some source) left t (inr says) =
+    let set = says.2 in inr ((order.second, says.0), refl, ap (λ (u : Told). u.set) set.is)
 
 verb_sets_only : (v : Verb) (order : Order) (names : Option Names) (left : Option (List ℕ)) (t : Told) → TellsVerb v order names left t → SetsOnly (verb_sets v order.second) t.set
-verb_sets_only verbs.Run order names left t says = got_sets order says.source left t says.next
+verb_sets_only verbs.Exec order names left t says = inl (exec_set order.limits order.first names left t says)
+verb_sets_only verbs.Run order names left t says = found_sets order names says.held left t says.next
+verb_sets_only verbs.Disasm order names left t says = inl (disasm_set order.first names left t says)
 
 tells_sets : (asked : Option Order) (names : Option Names) (left : Option (List ℕ)) (t : Told) → Tells asked names left t → SetsOnly (name_set asked) t.set
 tells_sets None names left t says = inl (ap (λ (u : Told). u.set) says.2)

@@ -16,7 +16,7 @@ use Rattle.pyc_cli.specs.Ending.{Ending, Close, told, read_fault, write_fault, m
 use Rattle.pyc_cli.specs.Line.{turned, Finishes}
 use Rattle.pyc_cli.specs.Making.{IsImageOf}
 use Rattle.pyc_cli.specs.Order.{Order}
-use Rattle.pyc_cli.specs.Told.{Told, IsSet, stops, TellsGot, TellsRun}
+use Rattle.pyc_cli.specs.Told.{Told, IsSet, stops, TellsFound, TellsSource, TellsRun}
 use Rattle.pyc_cli.specs.Tool.{Ends, Tells, TellsVerb, gets_first, is_after_set, WasSet, MadeOf, verb_makes, Makes}
 use Rattle.pyc_cli.specs.Work.{Outside, Works, Early, Late}
 use Rattle.pyc_cli.proofs.Calls.{turned_read, close_read, close_write}
@@ -108,15 +108,15 @@ not_set e input t other is = record {
   out = ap (λ (u : Told). u.out) is;
 }
 
-set_or_not : (order : Order) (source : Option (List ℕ)) (left : Option (List ℕ)) (t : Told) → TellsGot order source left t → NotSet t ⊎ SetImage order source t
-set_or_not order None left t says = inl (not_set (absent order.first) says.0 t refl says.2)
-set_or_not order (Some source) left t (inl says) = let input = says.2 in inl (not_set (refused says.0) input.0 t refl input.2)
-set_or_not order (Some source) left t (inr says) = let set = says.2 in inr (record {
+set_or_not : (order : Order) (names : Option Names) (source left : Option (List ℕ)) (t : Told) → TellsFound (λ bytes u. TellsSource order bytes names left u) order.first source left t → NotSet t ⊎ SetImage order source t
+set_or_not order names None left t says = inl (not_set (absent order.first) says.0 t refl says.2)
+set_or_not order names (Some source) left t (inl says) = let input = says.2 in inl (not_set (refused says.0) input.0 t refl input.2)
+set_or_not order names (Some source) left t (inr says) = let set = says.2 in inr (record {
   text = source;
   image = says.0;
   source_is = refl;
   is_image = says.1;
-  set = ap (λ (u : Told). u.set) set.2;
+  set = ap (λ (u : Told). u.set) set.is;
 })
 
 -- after which something was set
@@ -124,7 +124,10 @@ was_set : (gets sets : Type 0) (c : Close) (t : Told) (old new : Outside) → Cl
 was_set gets sets (told e) t old new (after_told _ h) w n =
     let after : is_after_set (status_told t.ending) ≡ true = ap (λ (x : Ending). is_after_set (status_told x)) (sym w.ending) ∙ h in
     let no_way : true ≡ false = sym after ∙ n.ends in cc
-was_set gets sets read_fault t old new (after_read h) w n = let no_way : true ≡ false = sym w.takes ∙ n.takes in cc
+was_set gets sets read_fault t old new (after_read h) w n = elim w.cause [
+  | inl g ↦ h g.rose
+  | inr f ↦ (let no_way : true ≡ false = sym f.takes ∙ n.takes in cc)
+]
 was_set gets sets write_fault t old new (after_write h) (inl w) n = h w.rose
 was_set gets sets write_fault t old new (after_write h) (inr w) n =
     let none : length t.out ≡ 0 = ap (λ (l : List ℕ). length l) n.out in let some = w.some in omega arith
@@ -165,15 +168,15 @@ made_of order image text (Some old) (Some new) had is set =
       is_image = is;
     }
 
-late_makes : (order : Order) (c : Close) (old new : Outside) → Closed (Rose old.files.gets new.files.gets) (Rose old.files.sets new.files.sets) c → Late (TellsRun order) c old new → MadeOf order.first order.second old.files.names new.files.names
-late_makes order c old new k l = from (set_or_not order l.tells.source old.input.left l.told l.tells.next)
+late_makes : (order : Order) (c : Close) (old new : Outside) → Closed (Rose old.files.gets new.files.gets) (Rose old.files.sets new.files.sets) c → Late (λ names left t. TellsRun order names left t) c old new → MadeOf order.first order.second old.files.names new.files.names
+late_makes order c old new k l = from (set_or_not order old.files.names l.tells.held old.input.left l.told l.tells.next)
   where
-    from : NotSet l.told ⊎ SetImage order l.tells.source l.told → MadeOf order.first order.second old.files.names new.files.names
+    from : NotSet l.told ⊎ SetImage order l.tells.held l.told → MadeOf order.first order.second old.files.names new.files.names
     from (inl n) = absurd (was_set (Rose old.files.gets new.files.gets) (Rose old.files.sets new.files.sets) c l.told old new k l.works n)
     from (inr s) =
         let Had : Option (List ℕ) → Type 0 = λ x. IfSome old.files.names (λ n. cut 1048577 (n order.first) ≡ x) in
         let Held : Option (List ℕ × List ℕ) → Type 0 = λ x. IsSet x old.files.names new.files.names in
-        made_of order s.image s.text old.files.names new.files.names (subst Had s.source_is l.tells.source_is) s.is_image (subst Held s.set (held_set c l.told old new (Rose old.files.gets new.files.gets) (Rose old.files.sets new.files.sets) k l.works))
+        made_of order s.image s.text old.files.names new.files.names (subst Had s.source_is l.tells.held_is) s.is_image (subst Held s.set (held_set c l.told old new (Rose old.files.gets new.files.gets) (Rose old.files.sets new.files.sets) k l.works))
 
 -- before a set the call doesn't end so
 not_early : (gets : Bool) (c : Close) (old new : Outside) → Closed (Rose old.files.gets new.files.gets) (Rose old.files.sets new.files.sets) c → Early gets c old new → ⊥
@@ -186,7 +189,9 @@ usage_never : (c : Close) (t : Told) (input : List ℕ) (old new : Outside) → 
 usage_never c t input old new is k w = was_set (Rose old.files.gets new.files.gets) (Rose old.files.sets new.files.sets) c t old new k w (not_set usage input t refl is)
 
 by_verb : (v : Verb) (order : Order) (c : Close) (old new : Outside) → Closed (Rose old.files.gets new.files.gets) (Rose old.files.sets new.files.sets) c → Late (λ names left t. TellsVerb v order names left t) c old new → verb_makes v order old.files.names new.files.names
+by_verb verbs.Exec order c old new k l = tt
 by_verb verbs.Run order c old new k l = late_makes order c old new k l
+by_verb verbs.Disasm order c old new k l = tt
 
 by_order : (asked : Option Order) (c : Close) (old new : Outside) → Closed (Rose old.files.gets new.files.gets) (Rose old.files.sets new.files.sets) c → Early (gets_first asked) c old new ⊎ Late (Tells asked) c old new → Makes asked old.files.names new.files.names
 by_order asked c old new k (inl e) = absurd (not_early (gets_first asked) c old new k e)

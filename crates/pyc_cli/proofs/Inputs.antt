@@ -1,5 +1,5 @@
 -- What is told of an input, and what a run leaves of it and of out.
-use Rattle.std.proofs.Common.{◌≡◌, ℕ, ◌+◌, ◌<◌, ◌≤◌, List, [], ◌++◌, length, drop, Option, None, Some, IfSome, true, false, refl, sym, ap, subst, arith}
+use Rattle.std.proofs.Common.{◌≡◌, ℕ, ◌+◌, ◌<◌, ◌≤◌, List, [], ◌++◌, length, drop, Option, None, Some, IfSome, Result, Ok, Err, true, false, refl, sym, ap, ◌∙◌, subst, arith}
 use Rattle.std.specs.Prelude.{nat_lt, if◌then◌else◌, IsUtf8}
 use Rattle.std.specs.Str.{is_utf8, chars}
 use Rattle.std.specs.Str.Lossy.{utf8_valid_len}
@@ -11,17 +11,18 @@ use Rattle.image.specs.Content.{Content}
 use Rattle.image.specs.declared.fault.ImageKind.{ImageKind}
 use Rattle.image.specs.declared.fault.ImageFault.{ImageFault}
 use Rattle.image.specs.declared.fault.ImageFault.TheVariants as faults
-use Rattle.image.specs.Fields.{fault, Fails}
+use Rattle.image.specs.Fields.{Fault, fault, Fails}
 use Rattle.image.specs.Format.{image_of}
 use Rattle.outside_io.specs.Causes.{Rose}
 use Rattle.outside_io.specs.Views.{Fed, Sunk, gained, untaken}
 use Rattle.pyc_cli.specs.Ending.{Close, told, read_fault, write_fault, memory, not_text, too_long, bad_image}
-use Rattle.pyc_cli.specs.Moved.{Left, GainsFront}
+use Rattle.pyc_cli.specs.Moved.{Left, GainsFront, TakesFront, IsCut}
 use Rattle.pyc_cli.specs.Order.{Limits}
 use Rattle.pyc_cli.specs.Stages.{Runs, RunLeaves, image_close}
 use Rattle.pyc_cli.specs.Told.{Told, stops, told_run, told_text, told_input, told_image, TellsInput, TellsBytes}
 use Rattle.pyc_cli.specs.Work.{Writes}
-use Rattle.pyc_cli.proofs.Pieces.{gained_none}
+use Rattle.pyc_cli.proofs.Growth.{append_none}
+use Rattle.pyc_cli.proofs.Pieces.{gained_none, front_taken, cut_stays, cut_front}
 
 -- an input that a source may have, where this is what it tells
 abbrev pub some_input : Option (List ℕ) → List ℕ
@@ -87,21 +88,47 @@ input_takes limits image input =
     elim (nat_lt 16777216 (length input)) as (λ b. (if b then record (stops too_long (drop 16777217 input)) { takes = true } else told_text limits image input).takes ≡ true)
     [ true ↦ refl | false ↦ text_takes limits image input ]
 
-leaves_by_writes : (t : Told) (c : Close) (old new : Fed) (out_old out_new : Sunk) → Left old.left new.left t.left → Writes t c out_old out_new → RunLeaves t c old new out_old out_new
-leaves_by_writes t (told e) old new out_old out_new left w = (w.0, left, w.1)
-leaves_by_writes t read_fault old new out_old out_new left w = absurd w
-leaves_by_writes t write_fault old new out_old out_new left w = (w.2, w.0, w.1)
-leaves_by_writes t memory old new out_old out_new left w = w
+-- nothing is set
+text_set : (limits : Limits) (image : Content) (input : List ℕ) → (told_text limits image input).set ≡ None
+text_set limits image input =
+    elim (is_utf8 input) as (λ b. (if b then told_run limits image (chars input) else record (stops (not_text (utf8_valid_len input)) []) { takes = true }).set ≡ None) [ true ↦ refl | false ↦ refl ]
+
+input_set : (limits : Limits) (image : Content) (input : List ℕ) → (told_input limits image input).set ≡ None
+input_set limits image input =
+    elim (nat_lt 16777216 (length input)) as (λ b. (if b then record (stops too_long (drop 16777217 input)) { takes = true } else told_text limits image input).set ≡ None)
+    [ true ↦ refl | false ↦ text_set limits image input ]
+
+pub image_set : (limits : Limits) (r : Result Content Fault) (input : List ℕ) → (told_image limits r input).set ≡ None
+image_set limits (Err e) input = refl
+image_set limits (Ok image) input = input_set limits image input
+
+leaves_by_writes : (t : Told) (c : Close) (old new : Fed) (out_old out_new : Sunk) → t.takes ≡ true → TakesFront old.left new.left → Left old.left new.left t.left → Writes t c out_old out_new → RunLeaves t c old new out_old out_new
+leaves_by_writes t (told e) old new out_old out_new takes front left w = (w.0, left, w.1)
+leaves_by_writes t read_fault old new out_old out_new takes front left w = absurd w
+leaves_by_writes t write_fault old new out_old out_new takes front left w = (w.2, w.0, left, w.1)
+leaves_by_writes t memory old new out_old out_new takes front left w = (cut_front t.takes old.left new.left takes front, w)
+
+-- all that was left was taken
+had_all : (bytes : List ℕ) (old new : Option (List ℕ)) → old ≡ untaken bytes new → IfSome new (λ left. left ≡ []) → IfSome old (λ left. left ≡ bytes) × Left old new []
+had_all bytes old None taken none =
+    let P : Option (List ℕ) → Type 0 = λ o. IfSome o (λ left. left ≡ bytes) × Left o None [] in
+    subst P (sym taken) (tt, tt)
+had_all bytes old (Some left) taken none =
+    let P : Option (List ℕ) → Type 0 = λ o. IfSome o (λ l. l ≡ bytes) × Left o (Some left) [] in
+    let whole : bytes ++ left ≡ bytes = ap (λ (l : List ℕ). bytes ++ l) none ∙ sym (append_none bytes) in
+    subst P (sym taken) (whole, ap Some none)
 
 -- the whole input was taken, and the image run on it
-pub runs_all : (limits : Limits) (image : Content) (bytes input : List ℕ) (c : Close) (old new : Fed) (out_old out_new : Sunk) → input ≡ bytes → length bytes ≤ 16777216 → IfSome old.left (λ left. left ≡ bytes) → Left old.left new.left [] → Writes (told_text limits image input) c out_old out_new → Runs (TellsInput (told_input limits image)) c old new out_old out_new
-runs_all limits image bytes input c old new out_old out_new is most had left writes =
+pub runs_all : (limits : Limits) (image : Content) (bytes input : List ℕ) (c : Close) (old new : Fed) (out_old out_new : Sunk) → input ≡ bytes → length bytes ≤ 16777216 → old.left ≡ untaken bytes new.left → IfSome new.left (λ left. left ≡ []) → Writes (told_text limits image input) c out_old out_new → Runs (TellsInput (told_input limits image)) c old new out_old out_new
+runs_all limits image bytes input c old new out_old out_new is most taken none writes =
+    let had = had_all bytes old.left new.left taken none in
+    let front = front_taken bytes old.left new.left new.left taken (omega arith) refl in
     let P : List ℕ → Type 0 = λ l. Writes (told_text limits image l) c out_old out_new in
     let Q : List ℕ → Type 0 = λ l. Left old.left new.left l in
     record {
       all = told_text limits image bytes;
-      tells = (bytes, had, sym (input_is limits image bytes most));
-      leaves = leaves_by_writes (told_text limits image bytes) c old new out_old out_new (subst Q (sym (text_left limits image bytes)) left) (subst P is writes);
+      tells = (bytes, had.0, sym (input_is limits image bytes most));
+      leaves = leaves_by_writes (told_text limits image bytes) c old new out_old out_new (text_takes limits image bytes) front (subst Q (sym (text_left limits image bytes)) had.1) (subst P is writes);
     }
 
 -- an input of which this many bytes are gone
@@ -137,19 +164,24 @@ runs_long limits image bytes old new out is taken =
       leaves = (refl, it.left, gained_none out.held);
     }
 
-pub runs_fault : (limits : Limits) (image : Content) (old new : Fed) (out : Sunk) → Rose old.faults new.faults → Runs (TellsInput (told_input limits image)) read_fault old new out out
-runs_fault limits image old new out rose = record {
+pub runs_fault : (limits : Limits) (image : Content) (old new : Fed) (out : Sunk) → Rose old.faults new.faults → TakesFront old.left new.left → Runs (TellsInput (told_input limits image)) read_fault old new out out
+runs_fault limits image old new out rose front = record {
   all = told_input limits image (some_input old.left);
   tells = (some_input old.left, known old.left, refl);
-  leaves = (input_takes limits image (some_input old.left), rose, refl);
+  leaves = (input_takes limits image (some_input old.left), rose, front, refl);
 }
 
-pub runs_memory : (f : List ℕ → Told) (old new : Fed) (out : Sunk) → Runs (TellsInput f) memory old new out out
-runs_memory f old new out = record {
+runs_memory : (f : List ℕ → Told) (old new : Fed) (out : Sunk) → IsCut (f (some_input old.left)).takes old.left new.left → Runs (TellsInput f) memory old new out out
+runs_memory f old new out cut = record {
   all = f (some_input old.left);
   tells = (some_input old.left, known old.left, refl);
-  leaves = front_none out.held (f (some_input old.left)).out;
+  leaves = (cut, front_none out.held (f (some_input old.left)).out);
 }
+
+-- there was no memory for the input
+pub runs_short : (limits : Limits) (image : Content) (old new : Fed) (out : Sunk) → TakesFront old.left new.left → Runs (TellsInput (told_input limits image)) memory old new out out
+runs_short limits image old new out front =
+    runs_memory (told_input limits image) old new out (cut_front (told_input limits image (some_input old.left)).takes old.left new.left (input_takes limits image (some_input old.left)) front)
 
 -- the bytes were no image
 runs_bad : (limits : Limits) (bytes : List ℕ) (kind : ImageKind) (offset : ℕ) (old : Fed) (out : Sunk) → image_of bytes ≡ fault offset kind → Runs (TellsBytes limits bytes) (told (bad_image kind offset)) old old out out
@@ -161,4 +193,5 @@ runs_bad limits bytes kind offset old out is = record {
 
 pub runs_refused : (limits : Limits) (bytes : List ℕ) (why : ImageFault) (old : Fed) (out : Sunk) → Fails why (image_of bytes) → Runs (TellsBytes limits bytes) (image_close why) old old out out
 runs_refused limits bytes (faults.Bad offset kind) old out is = runs_bad limits bytes kind offset old out is
-runs_refused limits bytes faults.Memory old out is = runs_memory (told_image limits (image_of bytes)) old old out
+runs_refused limits bytes faults.Memory old out is =
+    runs_memory (told_image limits (image_of bytes)) old old out (cut_stays (told_image limits (image_of bytes) (some_input old.left)).takes old.left)

@@ -1,7 +1,10 @@
 pub mod Pieces
 pub mod Inputs
+pub mod Lengths
 pub mod Works
 pub mod Calls
 pub mod Headline
 pub mod Growth
 pub mod RunSteps
+pub mod WordLaws
+pub mod Refusals

@@ -1,7 +1,8 @@
 -- Bytes moved by one call after another.
-use Rattle.std.proofs.Common.{◌≡◌, ℕ, ◌≤◌, List, [], ◌++◌, take, drop, Option, None, Some, refl, sym, ap, ◌∙◌, arith, append_assoc, rules}
-use Rattle.std.proofs.lemmas.List.{take-append-drop}
+use Rattle.std.proofs.Common.{◌≡◌, ℕ, ◌+◌, ◌≤◌, List, [], ◌++◌, length, take, drop, Option, None, Some, Bool, true, false, refl, sym, ap, ◌∙◌, arith, append_assoc, rules}
+use Rattle.std.proofs.lemmas.List.{take-append-drop, length-append}
 use Rattle.outside_io.specs.Views.{Sunk, gained, untaken}
+use Rattle.pyc_cli.specs.Moved.{TakesFront, IsCut}
 
 -- a front of a piece was put so far, and this is the rest
 pub record PutFront (old new : Sunk) (piece rest : List ℕ) : Type 0 where
@@ -24,6 +25,33 @@ gained_twice (Some held) a b = ap Some (append_assoc held a b)
 pub untaken_twice : (a b : List ℕ) (left : Option (List ℕ)) → untaken a (untaken b left) ≡ untaken (a ++ b) left
 untaken_twice a b None = refl
 untaken_twice a b (Some left) = ap Some (sym (append_assoc a b left))
+
+-- a front of the input was taken by some calls
+pub front_taken : (bytes : List ℕ) (old mid new : Option (List ℕ)) → old ≡ untaken bytes mid → length bytes ≤ 16777217 → new ≡ mid → TakesFront old new
+front_taken bytes old mid new taken few same = record { bytes = bytes; few = few; taken = taken ∙ ap (λ (l : Option (List ℕ)). untaken bytes l) (sym same) }
+
+-- and some more of it by one more
+pub front_more : (bytes piece : List ℕ) (most : ℕ) (old mid new : Option (List ℕ)) → old ≡ untaken bytes mid → length piece ≤ most → length bytes + most ≤ 16777217 → mid ≡ untaken piece new → TakesFront old new
+front_more bytes piece most old mid new taken short few more = record {
+  bytes = bytes ++ piece;
+  few = let both : length (bytes ++ piece) ≡ length bytes + length piece = length-append bytes piece in omega arith;
+  taken = taken ∙ ap (λ (l : Option (List ℕ)). untaken bytes l) more ∙ untaken_twice bytes piece new;
+}
+
+untaken_none : (left : Option (List ℕ)) → left ≡ untaken [] left
+untaken_none None = refl
+untaken_none (Some left) = refl
+
+-- nothing was taken
+pub front_stays : (left : Option (List ℕ)) → TakesFront left left
+front_stays left = record { bytes = []; few = omega arith; taken = untaken_none left }
+
+pub cut_stays : (takes : Bool) (left : Option (List ℕ)) → IsCut takes left left
+cut_stays takes left = record { front = front_stays left; none = λ h. refl }
+
+-- something may be taken
+pub cut_front : (takes : Bool) (old new : Option (List ℕ)) → takes ≡ true → TakesFront old new → IsCut takes old new
+cut_front takes old new is front = record { front = front; none = λ h. (let no_way : true ≡ false = sym is ∙ h in cc) }
 
 -- nothing of it is put yet
 pub put_nothing : (sunk : Sunk) (piece : List ℕ) → PutFront sunk sunk piece piece

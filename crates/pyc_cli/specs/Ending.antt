@@ -31,6 +31,8 @@ pub data Ending : Type 0 where
   not_text : ℕ → Ending
   -- the input is longer than its limit
   too_long : Ending
+  -- the text of a command was written whole
+  written : Ending
 
 -- what a call comes to: what is told, a fault, or want of memory
 pub data Close : Type 0 where
@@ -52,6 +54,7 @@ status_told (bad_image kind offset) = status.BadImage
 status_told (trap pc) = status.Trap
 status_told (not_text offset) = status.InputNotText
 status_told too_long = status.InputTooLong
+status_told written = status.Done
 
 abbrev pub status_of : Close → Status
 status_of (told e) = status_told e
@@ -70,7 +73,7 @@ kind_text kinds.Short = codes "Short"
 kind_text kinds.Debug = codes "Debug"
 kind_text kinds.Trailing = codes "Trailing"
 
--- the line on err
+-- the line on err; none after a text that was written, or that couldn't be
 unfoldable pub line_of : Close → List ℕ
 line_of (told (value text)) = codes "value " ++ text ++ codes "\n"
 line_of (told (error text)) = codes "error " ++ text ++ codes "\n"
@@ -84,6 +87,7 @@ line_of (told (bad_image kind offset)) = codes "bad image " ++ kind_text kind ++
 line_of (told (trap pc)) = codes "trap at " ++ decimal pc ++ codes "\n"
 line_of (told (not_text offset)) = codes "input not text at " ++ decimal offset ++ codes "\n"
 line_of (told too_long) = codes "input too long\n"
+line_of (told written) = []
 line_of read_fault = codes "read fault\n"
 line_of write_fault = []
 line_of memory = codes "memory\n"
@@ -102,6 +106,7 @@ is_made (told (bad_image kind offset)) = true
 is_made (told (trap pc)) = true
 is_made (told (not_text offset)) = true
 is_made (told too_long) = false
+is_made (told written) = false
 is_made read_fault = false
 is_made write_fault = false
 is_made memory = false

@@ -33,12 +33,23 @@ abbrev pub Left : Option (List ℕ) → Option (List ℕ) → List ℕ → Type 
 Left None new left = Unit {0}
 Left (Some old) new left = new ≡ Some left
 
--- the whole input, or one byte more than its limit
+-- a front of the input was taken, of at most one byte more than its limit
+pub record TakesFront (old new : Option (List ℕ)) : Type 0 where
+  pub bytes : List ℕ
+  pub few : length bytes ≤ 16777217
+  pub taken : old ≡ untaken bytes new
+
+-- The whole input, or one byte more than its limit. A take that fails is the last one.
 abbrev pub TakesInput : Fed → Fed → Input → Type 0
-TakesInput old new (input.All bytes) = (length bytes.items ≤ 16777216) × IfSome old.left (λ left. left ≡ bytes.items) × Left old.left new.left []
+TakesInput old new (input.All bytes) = (length bytes.items ≤ 16777216) × (old.left ≡ untaken bytes.items new.left) × IfSome new.left (λ left. left ≡ [])
 TakesInput old new input.TooLong = (bytes : List ℕ) × (length bytes ≡ 16777217) × (old.left ≡ untaken bytes new.left)
-TakesInput old new input.Failed = Rose old.faults new.faults
-TakesInput old new input.Memory = Unit {0}
+TakesInput old new input.Failed = Rose old.faults new.faults × TakesFront old.left new.left
+TakesInput old new input.Memory = TakesFront old.left new.left
+
+-- a front of the input was taken, and none of it where none is to be taken
+pub record IsCut (takes : Bool) (old new : Option (List ℕ)) : Type 0 where
+  pub front : TakesFront old new
+  pub none : takes ≡ false → new ≡ old
 
 -- a front of the text was gained
 pub record GainsFront (old new : Option (List ℕ)) (text : List ℕ) : Type 0 where

@@ -8,7 +8,7 @@ use Rattle.rv_isa.specs.Machine.{Space, State}
 use Rattle.rv_isa.specs.Start.{Setup, setup_space, machine}
 use Rattle.pyc_cli.specs.Ending.{Ending, value, error, heap, stack, step_limit, trap}
 use Rattle.pyc_cli.specs.Order.{Limits}
-use Rattle.first_printer.specs.Texts.{value_text, error_text}
+use Rattle.ending_texts.specs.Texts.{value_text, error_text}
 
 abbrev pub setup : Limits → Content → Setup
 setup limits image = record { code = image.code; statics = image.statics; entry = image.entry; heap = limits.heap; stack = limits.stack }

@@ -1,11 +1,12 @@
 -- What the stages of a command leave, before they are taken together.
-use Rattle.std.specs.Prelude.{◌≡◌, ◌<◌, ◌≤◌, ℕ, List, [], ◌++◌, length, Option, true, IfSome, string_bytes}
+use Rattle.std.specs.Prelude.{◌≡◌, ◌<◌, ◌≤◌, ℕ, List, [], ◌++◌, length, Option, None, true, IfSome, string_bytes}
 use Rattle.outside_io.specs.Causes.{Rose}
-use Rattle.outside_io.specs.Views.{Fed, Sunk, gained, untaken}
-use Rattle.pyc_cli.specs.Ending.{Ending, Close, told, value, error, usage, heap, stack, step_limit, bad_image, trap, read_fault, write_fault, memory}
-use Rattle.first_printer.specs.Errors.{fault_text}
-use Rattle.first_printer.specs.Values.{word_text}
-use Rattle.first_printer.specs.Words.{words_of}
+use Rattle.outside_io.specs.Names.{cut}
+use Rattle.outside_io.specs.Views.{Kept, Fed, Sunk, gained, untaken}
+use Rattle.pyc_cli.specs.Ending.{Ending, Close, told, value, error, usage, absent, heap, stack, step_limit, bad_image, trap, read_fault, write_fault, memory}
+use Rattle.ending_texts.specs.Errors.{fault_text}
+use Rattle.ending_texts.specs.Values.{word_text}
+use Rattle.ending_texts.specs.Words.{words_of}
 use Rattle.image.specs.Content.{Content}
 use Rattle.image.specs.declared.fault.ImageFault.{ImageFault}
 use Rattle.image.specs.declared.fault.ImageFault.TheVariants as faults
@@ -15,7 +16,7 @@ use Rattle.rv_machine.specs.declared.machine.Machine.{Machine}
 use Rattle.pyc_cli.specs.declared.words.WordFault.{WordFault}
 use Rattle.pyc_cli.specs.declared.words.WordFault.TheVariants as words
 use Rattle.pyc_cli.specs.Making.{IsRefused, IsImageOf}
-use Rattle.pyc_cli.specs.Moved.{Left, GainsFront}
+use Rattle.pyc_cli.specs.Moved.{Left, GainsFront, TakesFront, IsCut}
 use Rattle.pyc_cli.specs.Told.{Told}
 use Rattle.pyc_cli.specs.declared.moving.Step.{Step}
 use Rattle.pyc_cli.specs.declared.moving.Step.TheVariants as step
@@ -33,8 +34,21 @@ pub record Adds (old new : Fed) (before after : List ℕ) (most : ℕ) : Type 0 
 abbrev pub TakesMore : Fed → Fed → Step → List ℕ → List ℕ → ℕ → Type 0
 TakesMore old new step.More before after most = Adds old new before after most
 TakesMore old new step.End before after most = (after ≡ before) × IfSome old.left (λ left. left ≡ []) × (new.left ≡ old.left)
-TakesMore old new step.Failed before after most = Rose old.faults new.faults
-TakesMore old new step.Memory before after most = Unit {0}
+TakesMore old new step.Failed before after most = Rose old.faults new.faults × (new.left ≡ old.left)
+TakesMore old new step.Memory before after most = (piece : List ℕ) × (length piece ≤ most) × (old.left ≡ untaken piece new.left)
+
+-- a get changes no name and counts no set
+pub record GetKeeps (old new : Kept) : Type 0 where
+  pub names : new.names ≡ old.names
+  pub gets : old.gets ≤ new.gets
+  pub sets : new.sets ≡ old.sets
+
+-- what a call comes to that gets no bytes of a name
+abbrev pub Misses : ℕ → List ℕ → Kept → Kept → Close → Type 0
+Misses limit name old new (told e) = (e ≡ absent name) × IfSome old.names (λ n. cut limit (n name) ≡ None)
+Misses limit name old new read_fault = Rose old.gets new.gets
+Misses limit name old new write_fault = ⊥
+Misses limit name old new memory = Unit {0}
 
 -- what a source is compiled to
 abbrev pub Compiles : List ℕ → Compiled → Type 0
@@ -47,10 +61,10 @@ abbrev pub RunLeaves : Told → Close → Fed → Fed → Sunk → Sunk → Type
 RunLeaves t (told e) old new out_old out_new =
     (e ≡ t.ending) × Left old.left new.left t.left × (out_new.held ≡ gained out_old.held t.out)
 RunLeaves t read_fault old new out_old out_new =
-    (t.takes ≡ true) × Rose old.faults new.faults × (out_new.held ≡ out_old.held)
+    (t.takes ≡ true) × Rose old.faults new.faults × TakesFront old.left new.left × (out_new.held ≡ out_old.held)
 RunLeaves t write_fault old new out_old out_new =
-    (0 < length t.out) × Rose out_old.faults out_new.faults × GainsFront out_old.held out_new.held t.out
-RunLeaves t memory old new out_old out_new = GainsFront out_old.held out_new.held t.out
+    (0 < length t.out) × Rose out_old.faults out_new.faults × Left old.left new.left t.left × GainsFront out_old.held out_new.held t.out
+RunLeaves t memory old new out_old out_new = IsCut t.takes old.left new.left × GainsFront out_old.held out_new.held t.out
 
 -- a run, of which Tells says what is told
 pub record Runs (Tells : Option (List ℕ) → Told → Type 0) (c : Close) (old new : Fed) (out_old out_new : Sunk) : Type 0 where

@@ -1,13 +1,14 @@
 -- What a call comes to where no fault and no want of memory is met.
-use Rattle.std.specs.Prelude.{◌≡◌, ℕ, List, [], length, drop, Option, Some, None, IfSome, nat_lt, if◌then◌else◌, Bool, true, false, ◌⊎◌, Result, Ok, Err}
+use Rattle.std.specs.Prelude.{◌≡◌, ℕ, ◌+◌, List, [], length, drop, Option, Some, None, IfSome, nat_lt, if◌then◌else◌, Bool, true, false, ◌⊎◌, Result, Ok, Err}
 use Rattle.std.specs.Str.{is_utf8, chars}
 use Rattle.std.specs.Str.Lossy.{utf8_valid_len}
 use Rattle.image.specs.Content.{Content}
 use Rattle.image.specs.Fields.{Fault}
 use Rattle.image.specs.Format.{image_of}
+use Rattle.listing.specs.Text.{listing_of}
 use Rattle.outside_io.specs.Views.{Names}
 use Rattle.outside_io.specs.Names.{cut, ChangesTold}
-use Rattle.pyc_cli.specs.Ending.{Ending, refused, absent, bad_image, not_text, too_long}
+use Rattle.pyc_cli.specs.Ending.{Ending, refused, absent, bad_image, not_text, too_long, written}
 use Rattle.pyc_cli.specs.Order.{Order, Limits}
 use Rattle.pyc_cli.specs.Making.{IsRefused, IsImageOf}
 use Rattle.pyc_cli.specs.Running.{shown, end_of}
@@ -59,23 +60,51 @@ TellsInput told left t = (input : List ℕ) × IfSome left (λ l. l ≡ input) �
 abbrev pub TellsBytes : Limits → List ℕ → Option (List ℕ) → Told → Type 0
 TellsBytes limits bytes left t = TellsInput (told_image limits (image_of bytes)) left t
 
--- The image that was made is set, and then run.
-abbrev pub TellsSet : Order → List ℕ → Option (List ℕ) → Told → Type 0
-TellsSet order image left t =
-    (rest : Told) × TellsBytes order.limits image left rest × (t ≡ record rest { set = Some (order.second, image) })
+-- how many bytes of an image are asked for: one more than the longest has
+unfoldable pub image_asked : ℕ
+image_asked = 40 + 134217728 + 67108864 + 268435456 + 1
+
+-- a name isn't there, or it is gone on with its bytes
+abbrev pub TellsFound : (List ℕ → Told → Type 0) → List ℕ → Option (List ℕ) → Option (List ℕ) → Told → Type 0
+TellsFound Next name None left t = TellsInput (stops (absent name)) left t
+TellsFound Next name (Some bytes) left t = Next bytes t
+
+-- The first bytes of what the store holds at a name are gotten, at most so many.
+pub record TellsName (Next : List ℕ → Option Names → Option (List ℕ) → Told → Type 0) (limit : ℕ) (name : List ℕ) (names : Option Names) (left : Option (List ℕ)) (t : Told) : Type 0 where
+  pub held : Option (List ℕ)
+  pub held_is : IfSome names (λ n. cut limit (n name) ≡ held)
+  pub next : TellsFound (λ bytes u. Next bytes names left u) name held left t
+
+-- exec IMAGE: what the store holds at IMAGE is run.
+abbrev pub TellsExec : Limits → List ℕ → Option Names → Option (List ℕ) → Told → Type 0
+TellsExec limits name names left t = TellsName (λ bytes n l u. TellsBytes limits bytes l u) image_asked name names left t
+
+-- The image that was made is set, and then it is gone on as exec, with what a get of it gives: where the store tells its names, that is what was set.
+pub record TellsSet (order : Order) (image : List ℕ) (names : Option Names) (left : Option (List ℕ)) (t : Told) : Type 0 where
+  pub held : Option (List ℕ)
+  pub held_is : IfSome names (λ n. held ≡ Some image)
+  pub rest : Told
+  pub next : TellsFound (λ bytes u. TellsBytes order.limits bytes left u) order.second held left rest
+  pub is : t ≡ record rest { set = Some (order.second, image) }
 
 -- The source is compiled, if it is a program.
-abbrev pub TellsSource : Order → List ℕ → Option (List ℕ) → Told → Type 0
-TellsSource order source left t =
+abbrev pub TellsSource : Order → List ℕ → Option Names → Option (List ℕ) → Told → Type 0
+TellsSource order source names left t =
     ((text : List ℕ) × IsRefused source text × TellsInput (stops (refused text)) left t)
-    ⊎ ((image : List ℕ) × IsImageOf source image × TellsSet order image left t)
-
-abbrev pub TellsGot : Order → Option (List ℕ) → Option (List ℕ) → Told → Type 0
-TellsGot order None left t = TellsInput (stops (absent order.first)) left t
-TellsGot order (Some source) left t = TellsSource order source left t
+    ⊎ ((image : List ℕ) × IsImageOf source image × TellsSet order image names left t)
 
 -- run IN OUT: what the store holds at IN is the source.
-pub record TellsRun (order : Order) (names : Option Names) (left : Option (List ℕ)) (t : Told) : Type 0 where
-  pub source : Option (List ℕ)
-  pub source_is : IfSome names (λ n. cut 1048577 (n order.first) ≡ source)
-  pub next : TellsGot order source left t
+abbrev pub TellsRun : Order → Option Names → Option (List ℕ) → Told → Type 0
+TellsRun order names left t = TellsName (λ source n l u. TellsSource order source n l u) 1048577 order.first names left t
+
+-- The listing of code is written.
+abbrev pub told_code : List ℕ → List ℕ → Told
+told_code code input = record (stops written input) { out = listing_of code }
+
+abbrev pub told_listing : Result Content Fault → List ℕ → Told
+told_listing (Err fault) input = stops (bad_image fault.kind fault.offset) input
+told_listing (Ok image) input = told_code image.code input
+
+-- disasm IMAGE: what the store holds at IMAGE is listed.
+abbrev pub TellsDisasm : List ℕ → Option Names → Option (List ℕ) → Told → Type 0
+TellsDisasm name names left t = TellsName (λ bytes n l u. TellsInput (told_listing (image_of bytes)) l u) image_asked name names left t

@@ -1,6 +1,6 @@
 -- The code's types, without where they lie in memory.
 use Rattle.std.specs.Prelude.{string_bytes}
-use Rattle.pyc_cli.specs.Ending.{Close, told, value, error, usage, refused, absent, heap, stack, step_limit, bad_image, trap, not_text, too_long, read_fault, write_fault, memory}
+use Rattle.pyc_cli.specs.Ending.{Close, told, value, error, usage, refused, absent, heap, stack, step_limit, bad_image, trap, not_text, too_long, written, read_fault, write_fault, memory}
 use Rattle.pyc_cli.specs.Order.{Order, Limits}
 use Rattle.pyc_cli.specs.declared.command.Command.{Command}
 use Rattle.pyc_cli.specs.declared.outcome.Outcome.{Outcome}
@@ -21,6 +21,7 @@ close_of (outcome.BadImage kind offset) = told (bad_image kind offset)
 close_of (outcome.Trap pc) = told (trap pc)
 close_of (outcome.NotText offset) = told (not_text offset)
 close_of outcome.TooLong = told too_long
+close_of outcome.Written = told written
 close_of outcome.Memory = memory
 
 abbrev pub limits : Command → Limits

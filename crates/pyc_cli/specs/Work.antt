@@ -1,10 +1,10 @@
 -- What the work of a call leaves, before its last line.
-use Rattle.std.specs.Prelude.{◌<◌, length, ◌≡◌, ℕ, ◌≤◌, List, Option, Some, None, ◌⊎◌, Bool, true}
+use Rattle.std.specs.Prelude.{◌<◌, length, ◌≡◌, ℕ, ◌≤◌, List, Option, Some, None, is_some, ◌⊎◌, Bool, true}
 use Rattle.outside_io.specs.Causes.{Rose}
 use Rattle.outside_io.specs.Views.{Names, Kept, Fed, Sunk, gained}
 use Rattle.outside_io.specs.Names.{ChangesTold}
 use Rattle.pyc_cli.specs.Ending.{Ending, Close, told, read_fault, write_fault, memory}
-use Rattle.pyc_cli.specs.Moved.{Left, GainsFront}
+use Rattle.pyc_cli.specs.Moved.{Left, GainsFront, TakesFront, IsCut}
 use Rattle.pyc_cli.specs.Told.{Told, IsSet}
 
 -- the store, the input and out
@@ -30,10 +30,21 @@ pub record Whole (t : Told) (e : Ending) (old new : Outside) : Type 0 where
   pub input : Left old.input.left new.input.left t.left
   pub out : new.out.held ≡ gained old.out.held t.out
 
--- a take failed, where there is one, with nothing written
-pub record ReadFault (t : Told) (old new : Outside) : Type 0 where
+-- the get of what was set failed, before anything is taken
+pub record GetFault (t : Told) (old new : Outside) : Type 0 where
+  pub sets : is_some t.set ≡ true
+  pub rose : Rose old.files.gets new.files.gets
+  pub input : new.input.left ≡ old.input.left
+
+-- a take failed
+pub record TakeFault (t : Told) (old new : Outside) : Type 0 where
   pub takes : t.takes ≡ true
   pub rose : Rose old.input.faults new.input.faults
+  pub input : TakesFront old.input.left new.input.left
+
+-- a get or a take failed, where there is one, with nothing written
+pub record ReadFault (t : Told) (old new : Outside) : Type 0 where
+  pub cause : GetFault t old new ⊎ TakeFault t old new
   pub files : IsSet t.set old.files.names new.files.names
   pub out : new.out.held ≡ old.out.held
 
@@ -48,16 +59,18 @@ pub record SetFault (t : Told) (old new : Outside) : Type 0 where
   pub input : new.input.left ≡ old.input.left
   pub out : new.out.held ≡ old.out.held
 
--- a put failed, with a front of what is told written
+-- a put failed, with a front of what is told written, after all was taken that is to be
 pub record PutFault (t : Told) (old new : Outside) : Type 0 where
   pub some : 0 < length t.out
   pub rose : Rose old.out.faults new.out.faults
   pub files : IsSet t.set old.files.names new.files.names
+  pub input : Left old.input.left new.input.left t.left
   pub out : GainsFront old.out.held new.out.held t.out
 
 -- there was no memory, once what is set was set
 pub record NoMemory (t : Told) (old new : Outside) : Type 0 where
   pub files : IsSet t.set old.files.names new.files.names
+  pub input : IsCut t.takes old.input.left new.input.left
   pub out : GainsFront old.out.held new.out.held t.out
 
 abbrev pub Works : Told → Close → Outside → Outside → Type 0
@@ -66,10 +79,11 @@ Works t read_fault old new = ReadFault t old new
 Works t write_fault old new = SetFault t old new ⊎ PutFault t old new
 Works t memory old new = NoMemory t old new
 
--- the first get failed, where there is one, or there was no memory, with nothing set or written yet
+-- the first get failed, where there is one, or there was no memory, with nothing set, taken or written yet
 pub record Early (gets : Bool) (c : Close) (old new : Outside) : Type 0 where
   pub cause : ((gets ≡ true) × (c ≡ read_fault) × Rose old.files.gets new.files.gets) ⊎ (c ≡ memory)
   pub files : new.files.names ≡ old.files.names
+  pub input : new.input.left ≡ old.input.left
   pub out : new.out.held ≡ old.out.held
 
 pub record Late (Tells : Option Names → Option (List ℕ) → Told → Type 0) (c : Close) (old new : Outside) : Type 0 where

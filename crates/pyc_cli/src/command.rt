@@ -6,6 +6,10 @@ ghost use Rattle.rv_machine.specs.Limits.{AreSizes};
 pub enum Verb {
     /// Compiles a file, sets its image, and runs it.
     Run,
+    /// Runs an image.
+    Exec,
+    /// Lists the code of an image, a line an instruction.
+    Disasm,
 }
 
 /// A command with its operands.

@@ -1,18 +1,19 @@
 //! The commands, by their stages.
-ghost use Rattle.std.specs.Prelude.{◌≡◌, ◌≤◌, false, true};
+ghost use Rattle.std.specs.Prelude.{◌≡◌, ◌≤◌, false, length, true};
 ghost use Rattle.image.specs.View.{view};
-ghost use Rattle.pyc_cli.specs.Stages.{Runs, image_close};
-ghost use Rattle.pyc_cli.specs.Told.{told_text, told_input, TellsInput, TellsBytes, TellsSet, TellsSource, TellsRun};
+ghost use Rattle.pyc_cli.specs.Stages.{Runs};
+ghost use Rattle.pyc_cli.specs.Told.{image_asked, told_text, told_input, TellsInput, TellsBytes, TellsExec, TellsSet, TellsSource, TellsRun};
 ghost use Rattle.pyc_cli.specs.View.{close_of, limits, order};
 ghost use Rattle.pyc_cli.specs.Work.{Writes, Does, outside};
 
 use crate::command::Command;
+use crate::fetching::{fetch, fetch_image};
 use crate::making::{Compiled, compile};
 use crate::moving::{Input, take_input};
-use crate::outcome::Outcome;
+use crate::outcome::{Outcome, bad_image};
 use crate::running::run_image;
-use image::{Image, ImageFault};
-use outside_io::{Got, SetAnswer, Sink, Source, Store};
+use image::Image;
+use outside_io::{SetAnswer, Sink, Source, Store};
 use std::alloc::Global;
 use std::str;
 
@@ -56,16 +57,6 @@ fn run_input<'a, I: Source, O: Sink>(
     }
 }
 
-/// What a command comes to whose image isn't read.
-fn bad_image<'a>(fault: ImageFault) -> Outcome<'a>
-    ensures { close_of result ≡ image_close fault }
-{
-    match fault {
-        ImageFault::Bad { offset, kind } => Outcome::BadImage(kind, offset),
-        ImageFault::Memory => Outcome::Memory,
-    }
-}
-
 /// Reads an image, and runs it on the whole input.
 fn run_bytes<'a, I: Source, O: Sink>(
     alloc: Global,
@@ -84,34 +75,65 @@ fn run_bytes<'a, I: Source, O: Sink>(
     }
 }
 
-/// Sets the image of a file, and runs it on the whole input.
-fn run_set<'a, F: Store, I: Source, O: Sink>(
+/// Gets an image, and runs it on the whole input.
+fn run_name<'a, F: Store, I: Source, O: Sink>(
     alloc: Global,
     command: &Command,
+    name: &'a str,
+    files: &mut F,
+    input: &mut I,
+    out: &mut O,
+) -> Outcome<'a>
+    ensures { Does true (λ names left t. TellsExec (limits command.now) name.now names left t) (close_of result) (outside (F.kept files.old) (I.fed input.old) (O.sunk out.old)) (outside (F.kept files.new) (I.fed input.new) (O.sunk out.new)) }
+{
+    match fetch_image(files, name) {
+        Ok(bytes) => run_bytes(alloc, command, &bytes, input, out),
+        Err(outcome) => outcome,
+    }
+}
+
+/// Gets an image, and runs it on the whole input.
+pub fn exec<'a, F: Store, I: Source, O: Sink>(
+    alloc: Global,
+    command: &'a Command,
+    files: &mut F,
+    input: &mut I,
+    out: &mut O,
+) -> Outcome<'a>
+    ensures { Does true (λ names left t. TellsExec (limits command.now) (order command.now).first names left t) (close_of result) (outside (F.kept files.old) (I.fed input.old) (O.sunk out.old)) (outside (F.kept files.new) (I.fed input.new) (O.sunk out.new)) }
+{
+    run_name(alloc, command, command.first.as_str(), files, input, out)
+}
+
+/// Sets the image of a file, gets it back, and runs it on the whole input.
+fn run_set<'a, F: Store, I: Source, O: Sink>(
+    alloc: Global,
+    command: &'a Command,
     image: &[u8],
     files: &mut F,
     input: &mut I,
     out: &mut O,
 ) -> Outcome<'a>
-    ensures { Does false (λ names left t. TellsSet (order command.now) image.now left t) (close_of result) (outside (F.kept files.old) (I.fed input.old) (O.sunk out.old)) (outside (F.kept files.new) (I.fed input.new) (O.sunk out.new)) }
+    requires { length image.now ≤ image_asked }
+    ensures { Does false (λ names left t. TellsSet (order command.now) image.now names left t) (close_of result) (outside (F.kept files.old) (I.fed input.old) (O.sunk out.old)) (outside (F.kept files.new) (I.fed input.new) (O.sunk out.new)) }
 {
     match files.set(command.second.as_str(), image) {
-        SetAnswer::Set => run_bytes(alloc, command, image, input, out),
+        SetAnswer::Set => run_name(alloc, command, command.second.as_str(), files, input, out),
         SetAnswer::Failed => Outcome::WriteFault,
         SetAnswer::Memory => Outcome::Memory,
     }
 }
 
-/// Compiles a source, sets its image, and runs it on the whole input.
+/// Compiles a source, sets its image, gets it back, and runs it on the whole input.
 fn run_source<'a, F: Store, I: Source, O: Sink>(
     alloc: Global,
-    command: &Command,
+    command: &'a Command,
     source: &[u8],
     files: &mut F,
     input: &mut I,
     out: &mut O,
 ) -> Outcome<'a>
-    ensures { Does false (λ names left t. TellsSource (order command.now) source.now left t) (close_of result) (outside (F.kept files.old) (I.fed input.old) (O.sunk out.old)) (outside (F.kept files.new) (I.fed input.new) (O.sunk out.new)) }
+    ensures { Does false (λ names left t. TellsSource (order command.now) source.now names left t) (close_of result) (outside (F.kept files.old) (I.fed input.old) (O.sunk out.old)) (outside (F.kept files.new) (I.fed input.new) (O.sunk out.new)) }
 {
     match compile(alloc, source) {
         Compiled::Image(image) => run_set(alloc, command, &image, files, input, out),
@@ -120,7 +142,7 @@ fn run_source<'a, F: Store, I: Source, O: Sink>(
     }
 }
 
-/// Compiles a file, sets its image, and runs it on the whole input.
+/// Compiles a file, sets its image, gets it back, and runs it on the whole input.
 pub fn run<'a, F: Store, I: Source, O: Sink>(
     alloc: Global,
     command: &'a Command,
@@ -128,12 +150,10 @@ pub fn run<'a, F: Store, I: Source, O: Sink>(
     input: &mut I,
     out: &mut O,
 ) -> Outcome<'a>
-    ensures { Does true (TellsRun (order command.now)) (close_of result) (outside (F.kept files.old) (I.fed input.old) (O.sunk out.old)) (outside (F.kept files.new) (I.fed input.new) (O.sunk out.new)) }
+    ensures { Does true (λ names left t. TellsRun (order command.now) names left t) (close_of result) (outside (F.kept files.old) (I.fed input.old) (O.sunk out.old)) (outside (F.kept files.new) (I.fed input.new) (O.sunk out.new)) }
 {
-    match files.get(command.first.as_str(), SOURCE_ASKED) {
-        Got::Bytes(source) => run_source(alloc, command, &source, files, input, out),
-        Got::Absent => Outcome::Absent(command.first.as_str()),
-        Got::Failed => Outcome::ReadFault,
-        Got::Memory => Outcome::Memory,
+    match fetch(files, command.first.as_str(), SOURCE_ASKED) {
+        Ok(source) => run_source(alloc, command, &source, files, input, out),
+        Err(outcome) => outcome,
     }
 }

@@ -4,15 +4,20 @@
 
 mod command;
 mod commands;
+mod fetching;
 mod line;
+mod listed;
 mod making;
 mod moving;
+mod options;
 mod outcome;
 mod running;
 mod status;
 #[cfg(test)]
 mod tests;
 mod top;
+#[cfg(test)]
+mod word_tests;
 mod words;
 
 pub use command::{Command, Verb};

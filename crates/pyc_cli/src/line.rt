@@ -35,6 +35,7 @@ fn status_of(outcome: &Outcome) -> Status
         Outcome::Trap(_) => Status::Trap,
         Outcome::NotText(_) => Status::InputNotText,
         Outcome::TooLong => Status::InputTooLong,
+        Outcome::Written => Status::Done,
         Outcome::Memory => Status::Memory,
     }
 }
@@ -73,7 +74,8 @@ fn kind_text(kind: ImageKind) -> &'static str
     }
 }
 
-/// The line of an outcome, ended by a newline; none after a fault of writing.
+/// The line of an outcome, ended by a newline; none after a text that was written, or that couldn't
+/// be.
 #[tactic(auto, unfolding(crate::specs::Ending::line_of))]
 fn line_of(alloc: Global, outcome: &Outcome) -> Result<Line, AllocError>
     ensures { MatchResult result (λ line. line_bytes line ≡ line_of_close (close_of outcome.now)) (λ _. is_made (close_of outcome.now) ≡ true) }
@@ -96,6 +98,7 @@ fn line_of(alloc: Global, outcome: &Outcome) -> Result<Line, AllocError>
         Outcome::Trap(pc) => Line::Made(format!(in alloc; "trap at {pc}\n")?),
         Outcome::NotText(offset) => Line::Made(format!(in alloc; "input not text at {offset}\n")?),
         Outcome::TooLong => Line::Fixed("input too long\n"),
+        Outcome::Written => Line::Fixed(""),
         Outcome::Memory => Line::Fixed("memory\n"),
     })
 }

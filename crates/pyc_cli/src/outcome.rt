@@ -1,5 +1,9 @@
 //! What a command came to.
-use image::ImageKind;
+ghost use Rattle.std.specs.Prelude.{◌≡◌};
+ghost use Rattle.pyc_cli.specs.Stages.{image_close};
+ghost use Rattle.pyc_cli.specs.View.{close_of};
+
+use image::{ImageFault, ImageKind};
 
 /// What a command came to, before its last line.
 #[derive(Drop)]
@@ -32,6 +36,18 @@ pub enum Outcome<'a> {
     NotText(usize),
     /// The input is longer than its limit.
     TooLong,
+    /// The text of a command was written whole.
+    Written,
     /// There was no memory.
     Memory,
+}
+
+/// What a command comes to whose image isn't read.
+pub fn bad_image<'a>(fault: ImageFault) -> Outcome<'a>
+    ensures { close_of result ≡ image_close fault }
+{
+    match fault {
+        ImageFault::Bad { offset, kind } => Outcome::BadImage(kind, offset),
+        ImageFault::Memory => Outcome::Memory,
+    }
 }

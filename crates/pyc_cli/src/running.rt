@@ -14,7 +14,7 @@ ghost use Rattle.pyc_cli.specs.Work.{Writes};
 use crate::command::Command;
 use crate::moving::{Wrote, put_all};
 use crate::outcome::Outcome;
-use first_printer::{error_text, value_text};
+use ending_texts::{error_text, value_text};
 use image::Image;
 use outside_io::Sink;
 use rv_machine::events::Event;

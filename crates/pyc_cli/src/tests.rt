@@ -1,5 +1,7 @@
 use super::*;
-use outside_io::{Calls, MemSink, MemSource, MemStore};
+use crate::line::put_line;
+use crate::top::perform;
+use outside_io::{Calls, MemSink, MemSource, MemStore, Source, Took};
 use std::alloc::Global;
 use std::process::Abort;
 use std::test::Fail;
@@ -183,6 +185,18 @@ fn faults_of_reading_are_told(rt: HostRuntime) -> Result<(), Fail> {
 }
 
 #[test]
+fn nothing_is_taken_after_a_failed_take(rt: HostRuntime) -> Result<(), Fail> {
+    let mut text = vec![in rt.alloc(); 120; 4096]?;
+    text.push(121)?;
+    let mut left = call(rt.alloc(), &RUN, ECHO, &text, [0, 2, 0, 0])?;
+    assert_eq!(rt; left.status, Status::ReadFault);
+    let mut rest = [0u8; 2];
+    assert_eq!(rt; left.input.take(&mut rest), Took::Bytes(1));
+    assert_eq!(rt; rest[0], 121);
+    Ok(())
+}
+
+#[test]
 fn faults_of_writing_are_told(rt: HostRuntime) -> Result<(), Fail> {
     let left = call(rt.alloc(), &RUN, ECHO, b"x", [2, 0, 0, 0])?;
     assert_eq!(rt; left.status, Status::WriteFault);
@@ -198,5 +212,131 @@ fn a_line_that_is_not_put_is_a_fault(rt: HostRuntime) -> Result<(), Fail> {
     let left = call(rt.alloc(), &RUN, b"t", b"", [0, 0, 0, 2])?;
     assert_eq!(rt; left.status, Status::WriteFault);
     assert_eq!(rt; left.err.bytes(), b"val".as_slice());
+    Ok(())
+}
+
+/// The header of an image without statics, with so many bytes of code.
+fn header(code: u8) -> [u8; 40] {
+    [
+        0x50, 0x59, 0x49, 0x4d, 1, 0, 0, 0, code, 0, 0, 0, 0, 0, 0, 0, 0, 0, 0, 0, 0, 0, 0, 0, 16,
+        0, 0, 0, 0, 0, 0, 0, 0, 0, 1, 0, 0, 0, 0, 0,
+    ]
+}
+
+/// An image of this code, with no debug rows.
+fn image_of(alloc: Global, code: &[u8]) -> Result<Vec<u8>, Fail> {
+    let mut bytes = header(code.len().min(8) as u8).to_vec(alloc)?;
+    bytes.extend_from_slice(code)?;
+    bytes.extend_from_slice(&[0; 16])?;
+    Ok(bytes)
+}
+
+/// A word that is no instruction.
+const NOTHING: [u8; 4] = [0; 4];
+
+/// `addi x17, x0, 5` and `ecall`: the run ends since the heap is full.
+const HEAP: [u8; 8] = [0x93, 0x08, 0x50, 0, 0x73, 0, 0, 0];
+
+/// Performs a command on the image that a store holds at `in`, and puts its last line.
+fn perform_on(
+    alloc: Global,
+    verb: Verb,
+    steps: u64,
+    image: &[u8],
+    input: &[u8],
+) -> Result<Leaves, Fail> {
+    let mut files = MemStore::new(alloc, Vec::new(alloc));
+    files.add("in", image)?;
+    let mut input = MemSource::new(input.to_vec(alloc)?, 4096, Vec::new(alloc));
+    let mut out = MemSink::new(alloc, 2, Vec::new(alloc));
+    let mut err = MemSink::new(alloc, 3, Vec::new(alloc));
+    let command = Command {
+        verb,
+        first: String::from_str(alloc, "in")?,
+        second: String::new(alloc),
+        count: 0,
+        steps,
+        heap: 16,
+        stack: 1024,
+    };
+    let outcome = perform(alloc, &command, &mut files, &mut input, &mut out);
+    let status = put_line(alloc, &outcome, &mut err);
+    Ok(Leaves {
+        status,
+        files,
+        input,
+        out,
+        err,
+    })
+}
+
+/// Runs an image, and compares what comes.
+fn check_exec(
+    rt: &impl Abort,
+    alloc: Global,
+    steps: u64,
+    image: &[u8],
+    status: Status,
+    err: &[u8],
+) -> Result<(), Fail> {
+    let left = perform_on(alloc, Verb::Exec, steps, image, b"")?;
+    assert_eq!(rt; left.err.bytes(), err);
+    assert_eq!(rt; left.status, status);
+    assert_eq!(rt; left.out.bytes(), b"".as_slice());
+    Ok(())
+}
+
+#[test]
+fn an_image_is_run(rt: HostRuntime) -> Result<(), Fail> {
+    let alloc = rt.alloc();
+    let nothing = image_of(alloc, &NOTHING)?;
+    let heap = image_of(alloc, &HEAP)?;
+    check_exec(&rt, alloc, 9, &nothing, Status::Trap, b"trap at 65536\n")?;
+    check_exec(&rt, alloc, 9, &heap, Status::Heap, b"heap\n")?;
+    check_exec(&rt, alloc, 1, &heap, Status::StepLimit, b"step limit\n")
+}
+
+#[test]
+fn bytes_that_are_no_image_are_told(rt: HostRuntime) -> Result<(), Fail> {
+    let alloc = rt.alloc();
+    let mut image = image_of(alloc, &NOTHING)?;
+    image.push(0)?;
+    let trailing = b"bad image Trailing at 60\n";
+    check_exec(&rt, alloc, 9, &image, Status::BadImage, trailing)?;
+    image.truncate(59);
+    let short = b"bad image Short at 59\n";
+    check_exec(&rt, alloc, 9, &image, Status::BadImage, short)
+}
+
+#[test]
+fn the_input_of_an_image_is_text(rt: HostRuntime) -> Result<(), Fail> {
+    let image = image_of(rt.alloc(), &NOTHING)?;
+    let left = perform_on(rt.alloc(), Verb::Exec, 9, &image, b"\xff")?;
+    assert_eq!(rt; left.status, Status::InputNotText);
+    assert_eq!(rt; left.err.bytes(), b"input not text at 0\n".as_slice());
+    Ok(())
+}
+
+#[test]
+fn an_image_is_listed(rt: HostRuntime) -> Result<(), Fail> {
+    let image = image_of(rt.alloc(), &HEAP)?;
+    let mut left = perform_on(rt.alloc(), Verb::Disasm, 9, &image, b"x")?;
+    assert_eq!(rt; left.status, Status::Done);
+    assert_eq!(rt;
+        left.out.bytes(),
+        b"00010000: 00500893 addi x17, x0, 5\n00010004: 00000073 ecall\n".as_slice()
+    );
+    assert_eq!(rt; left.err.bytes(), b"".as_slice());
+    let mut rest = [0u8; 2];
+    assert_eq!(rt; left.input.take(&mut rest), Took::Bytes(1));
+    Ok(())
+}
+
+#[test]
+fn an_image_that_is_not_gotten_back_is_a_fault(rt: HostRuntime) -> Result<(), Fail> {
+    let left = call(rt.alloc(), &RUN, ECHO, b"x", [3, 0, 0, 0])?;
+    assert_eq!(rt; left.status, Status::ReadFault);
+    assert_eq!(rt; left.err.bytes(), b"read fault\n".as_slice());
+    assert_eq!(rt; left.files.look("out").is_some(), true);
     Ok(())
 }

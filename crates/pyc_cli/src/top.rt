@@ -2,13 +2,14 @@
 ghost use Rattle.std.specs.Prelude.{◌≡◌, ◌⊎◌, map, string_bytes};
 ghost use Rattle.pyc_cli.specs.Order.{order_of};
 ghost use Rattle.pyc_cli.specs.Stages.{word_close};
-ghost use Rattle.pyc_cli.specs.Tool.{Ends, AsTold, ChangesOnly, Makes, RoseInRead, RoseInWrite, WasSet, name_set};
-ghost use Rattle.pyc_cli.specs.View.{close_of};
-ghost use Rattle.pyc_cli.specs.Work.{outside};
+ghost use Rattle.pyc_cli.specs.Tool.{Ends, TellsVerb, verb_gets_first, AsTold, ChangesOnly, Makes, RoseInRead, RoseInWrite, WasSet, name_set};
+ghost use Rattle.pyc_cli.specs.View.{close_of, order};
+ghost use Rattle.pyc_cli.specs.Work.{Does, outside};
 
-use crate::command::Verb;
-use crate::commands::run;
+use crate::command::{Command, Verb};
+use crate::commands::{exec, run};
 use crate::line::put_line;
+use crate::listed::disasm;
 use crate::outcome::Outcome;
 use crate::status::Status;
 use crate::words::{WordFault, parse_words};
@@ -22,6 +23,23 @@ fn no_command<'a>(fault: WordFault) -> Outcome<'a>
     match fault {
         WordFault::Usage => Outcome::Usage,
         WordFault::Memory => Outcome::Memory,
+    }
+}
+
+/// Does what a command says, up to its last line.
+pub fn perform<'a, F: Store, I: Source, O: Sink>(
+    alloc: Global,
+    command: &'a Command,
+    files: &mut F,
+    input: &mut I,
+    out: &mut O,
+) -> Outcome<'a>
+    ensures { Does (verb_gets_first command.now.verb) (λ names left t. TellsVerb command.now.verb (order command.now) names left t) (close_of result) (outside (F.kept files.old) (I.fed input.old) (O.sunk out.old)) (outside (F.kept files.new) (I.fed input.new) (O.sunk out.new)) }
+{
+    match command.verb {
+        Verb::Exec => exec(alloc, command, files, input, out),
+        Verb::Run => run(alloc, command, files, input, out),
+        Verb::Disasm => disasm(alloc, command, files, out),
     }
 }
 
@@ -48,9 +66,7 @@ pub fn tool<F: Store, I: Source, O: Sink, E: Sink>(
 {
     match parse_words(alloc, words) {
         Ok(command) => {
-            let outcome = match command.verb {
-                Verb::Run => run(alloc, &command, files, input, out),
-            };
+            let outcome = perform(alloc, &command, files, input, out);
             put_line(alloc, &outcome, err)
         }
         Err(fault) => put_line(alloc, &no_command(fault), err),

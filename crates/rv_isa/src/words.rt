@@ -79,6 +79,7 @@ pub fn encode(instr: Instr) -> u32
 }
 
 /// A shift by six bits, or another operation with an immediate.
+#[inline(always)]
 #[tactic(auto, unfolding(crate::specs::Encoding::imm_instr_of))]
 fn imm_instr(f: Fields) -> Option<Instr>
     ensures { result ≡ imm_instr_of f }
@@ -95,6 +96,7 @@ fn imm_instr(f: Fields) -> Option<Instr>
 }
 
 /// ADDIW, or a shift of a word.
+#[inline(always)]
 #[tactic(auto, unfolding(crate::specs::Encoding::word_imm_instr_of))]
 fn word_imm_instr(f: Fields) -> Option<Instr>
     ensures { result ≡ word_imm_instr_of f }
@@ -124,6 +126,7 @@ fn system_instr(f: Fields) -> Option<Instr>
 }
 
 /// What stands in the fields of a word, by its opcode.
+#[inline(always)]
 #[tactic(auto, unfolding(crate::specs::Encoding::instr_of))]
 fn instr(f: Fields) -> Option<Instr>
     ensures { result ≡ instr_of f }
@@ -147,6 +150,7 @@ fn instr(f: Fields) -> Option<Instr>
 
 /// The instruction of a word, None exactly where the word is that of no instruction.
 /// (The RISC-V Instruction Set Manual, Volume I, "RV32/64G Instruction Set Listings".)
+#[inline(always)]
 #[tactic(auto, unfolding(crate::specs::Encoding::decoded))]
 pub fn decode(word: u32) -> Option<Instr>
     ensures value { result ≡ decoded word }

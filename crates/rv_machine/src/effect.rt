@@ -30,6 +30,7 @@ fn offset<const BITS: u32>(pc: u64, half: Field<BITS>) -> u64
 }
 
 /// What an instruction at this address asks of a machine with these registers.
+#[inline(always)]
 pub(crate) fn effect(registers: &Registers, pc: u64, instr: Instr) -> Effect
     ensures { result ≡ effect (registers_of registers.now) pc instr }
 {

@@ -1,10 +1,12 @@
 //! What may be read of a machine between two steps.
 ghost use Rattle.std.specs.Prelude.{◌≡◌, ◌≤◌, [], SomeIff};
 ghost use Rattle.rv_isa.specs.Machine.{reg};
+ghost use Rattle.rv_machine.specs.Memory.{memory_of};
 ghost use Rattle.rv_machine.specs.View.{space, state};
 ghost use Rattle.rv_machine.specs.Steps.{bytes_at};
 
 use crate::machine::Machine;
+use object_model::Words;
 use rv_isa::fields::Register;
 
 impl Machine {
@@ -31,6 +33,15 @@ impl Machine {
     pub fn word(&self, address: u64) -> Option<u64>
         ensures { result ≡ bytes_at (space self.now) (state [] [] self.now).memory address 8 }
     {
+        self.bytes(address, 8)
+    }
+}
+
+/// The words that `Machine::word` reads.
+impl Words for Machine {
+    ghost words = { λ m address. bytes_at (space m) (memory_of m.memory) address 8 };
+
+    fn word(&self, address: u64) -> Option<u64> {
         self.bytes(address, 8)
     }
 }

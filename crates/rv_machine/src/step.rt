@@ -17,6 +17,7 @@ use rv_isa::words::decode;
 impl Machine {
     /// Makes one step, where the program reads this input, and tells what it did. A machine that has ended stays as it is,
     /// and tells that ending again. It takes no memory.
+    #[inline(always)]
     pub fn step(&mut self, input: &[char]) -> Event
         ensures { Does (step (space self.old)) input.now self.old result self.new }
     {
@@ -27,6 +28,7 @@ impl Machine {
     }
 
     /// Executes the instruction at which the machine stands.
+    #[inline(always)]
     fn advance(&mut self, input: &[char]) -> Event
         requires { self.old.ending ≡ None }
         ensures { Does (λ m. executed_if (space self.old) (fetched (space self.old) m.pc) m) input.now self.old result self.new }
@@ -38,6 +40,7 @@ impl Machine {
     }
 
     /// The instruction at which the machine stands, if there is one.
+    #[inline(always)]
     fn fetch(&self) -> Option<Instr>
         ensures value { result ≡ fetched (space self.now) self.now.pc }
         ensures small { IfSome result (λ _. self.now.pc < 0x20000000) }
@@ -51,6 +54,7 @@ impl Machine {
     }
 
     /// Executes an instruction.
+    #[inline(always)]
     fn execute(&mut self, instr: Instr, input: &[char]) -> Event
         requires on { self.old.ending ≡ None }
         requires small { self.old.pc < 0x20000000 }
@@ -61,6 +65,7 @@ impl Machine {
     }
 
     /// Does what an instruction asks for.
+    #[inline(always)]
     fn apply(&mut self, effect: Effect, input: &[char]) -> Event
         requires on { self.old.ending ≡ None }
         requires small { self.old.pc < 0x20000000 }

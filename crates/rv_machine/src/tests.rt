@@ -287,3 +287,100 @@ fn regions(rt: HostRuntime) -> Result<(), Fail> {
     }
     Ok(())
 }
+
+/// The code LB, LH, LW and LD x12, 0(x10), and JALR x0, 0(x10), whose last word is half of eight bytes.
+const EDGES: [u8; 20] = [
+    0x03, 0x06, 0x05, 0, 0x03, 0x16, 0x05, 0, 0x03, 0x26, 0x05, 0, 0x03, 0x36, 0x05, 0, 0x67, 0,
+    0x05, 0,
+];
+
+/// What x12 holds after the instruction with this number, with this address in x10, None where it traps.
+fn loaded(machine: &mut Machine, instruction: u32, address: u64) -> Option<u64> {
+    machine.ending = None;
+    machine.pc = CODE + 4 * u64::from(instruction);
+    machine.registers.set(Register::of(10), address);
+    match machine.step(&[]) {
+        Event::Went => machine.reg(12),
+        _ => None,
+    }
+}
+
+#[test]
+fn edges_of_code_and_statics(rt: HostRuntime) -> Result<(), Fail> {
+    let sizes = Sizes {
+        heap: 16,
+        stack: 1024,
+    };
+    let mut machine = Machine::load_parts(rt.alloc(), &EDGES, &[1; 8], CODE, sizes)?;
+    for (instruction, address, x12) in [
+        (0, CODE - 1, None),
+        (0, CODE + 18, Some(5)),
+        (0, CODE + 20, None),
+        (1, CODE + 18, Some(5)),
+        (1, CODE + 20, None),
+        (2, CODE + 16, Some(0x0005_0067)),
+        (2, CODE + 20, None),
+        (3, CODE + 8, Some(0x0005_3603_0005_2603)),
+        (3, CODE + 16, None),
+        (0, 0x1FFF_FFFF, None),
+        (3, 0x2000_0000, Some(0x0101_0101_0101_0101)),
+        (0, 0x2000_0007, Some(1)),
+        (0, 0x2000_0008, None),
+    ] {
+        assert!(rt;
+            loaded(&mut machine, instruction, address) == x12,
+            "{instruction} {address}"
+        );
+    }
+    Ok(())
+}
+
+/// What the instruction does that a jump with this target leads to.
+fn led_to(machine: &mut Machine, target: u64) -> Event {
+    machine.ending = None;
+    machine.pc = CODE + 16;
+    machine.registers.set(Register::of(10), target);
+    let _jumped = machine.step(&[]);
+    machine.step(&[])
+}
+
+#[test]
+fn jumps_to_the_edges(rt: HostRuntime) -> Result<(), Fail> {
+    let sizes = Sizes {
+        heap: 16,
+        stack: 1024,
+    };
+    let mut machine = Machine::load_parts(rt.alloc(), &EDGES, &[1; 8], CODE, sizes)?;
+    assert!(rt; led_to(&mut machine, CODE) == Event::Went);
+    assert!(rt; led_to(&mut machine, CODE + 17) == Event::Went);
+    for pc in [
+        CODE - 4,
+        CODE + 2,
+        CODE + 20,
+        0x2000_0000,
+        HEAP,
+        u64::MAX - 3,
+    ] {
+        assert!(rt; led_to(&mut machine, pc) == Event::Trap { pc }, "{pc}");
+    }
+    Ok(())
+}
+
+/// The greatest stacks touch: the control stack's last word and the number stack's first are neighbours.
+#[test]
+fn stacks_that_touch(rt: HostRuntime) -> Result<(), Fail> {
+    let sizes = Sizes {
+        heap: 16,
+        stack: 0x1000_0000,
+    };
+    let mut machine = Machine::load_parts(rt.alloc(), &EDGES, &[], CODE, sizes)?;
+    assert!(rt; machine.memory.store(0x6FFF_FFF8, 8, 0x8877_6655_4433_2211));
+    assert!(rt; machine.memory.store(0x7000_0000, 8, 0x00FF_EEDD_CCBB_AA99));
+    assert!(rt; loaded(&mut machine, 2, 0x6FFF_FFFC) == Some(0xFFFF_FFFF_8877_6655));
+    assert!(rt; loaded(&mut machine, 2, 0x7000_0000) == Some(0xFFFF_FFFF_CCBB_AA99));
+    assert!(rt; loaded(&mut machine, 3, 0x6FFF_FFFC) == None);
+    assert!(rt; machine.word(0x6FFF_FFF8) == Some(0x8877_6655_4433_2211));
+    assert!(rt; machine.word(0x7FFF_FFF8) == Some(0));
+    assert!(rt; machine.word(0x8000_0000) == None);
+    Ok(())
+}

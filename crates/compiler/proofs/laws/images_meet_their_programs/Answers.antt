@@ -6,4 +6,4 @@ pub returns-clause-forms : goal.returns-clause-forms
 returns-clause-forms c = forms_meet
 
 pub returns-clause-sources : goal.returns-clause-sources
-returns-clause-sources c = source_meets
+returns-clause-sources c = source_meets c.programs_are_built.ensures.pass c.files_are_small.ensures.programs c.programs_have_names.ensures

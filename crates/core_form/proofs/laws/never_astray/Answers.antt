@@ -1,5 +1,5 @@
-use Rattle.core_form.proofs.Built as built
+use Rattle.core_form.proofs.Fuel as fuel
 use Rattle.core_form.proofs.laws.never_astray.Goals as goal
 
 pub returns : goal.returns
-returns c = built.never_astray
+returns c = fuel.never_astray

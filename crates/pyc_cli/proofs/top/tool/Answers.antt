@@ -5,7 +5,7 @@ use Rattle.pyc_cli.proofs.top.tool.Goals as goal
 
 pub returns-in-Ok : goal.returns-in-Ok
 returns-in-Ok g c =
-    let ends = ends_order (order c.in-Ok.command) _ _ _ _ _ _ _ c.in-Ok.ensures c.run-outcome.ensures c.put_line.ensures in
+    let ends = ends_order (order c.in-Ok.command) _ _ _ _ _ _ _ c.in-Ok.ensures c.perform-outcome.ensures c.put_line.ensures in
     record { ends = ends; makes = ends_makes _ _ _ _ _ _ ends; read = ends_read _ _ _ _ _ _ ends; write = ends_write _ _ _ _ _ _ ends; only = ends_only _ _ _ _ _ _ ends; complete = ends_complete _ _ _ _ _ _ ends }
 
 pub returns-in-Err : goal.returns-in-Err

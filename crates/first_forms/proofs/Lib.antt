@@ -1,0 +1,11 @@
+pub mod Sequences
+pub mod Elements
+pub mod Nodes
+pub mod Splitting
+pub mod Bounded
+pub mod Sizes
+pub mod Passing
+pub mod Names
+pub mod Whole
+pub mod FileForms
+pub mod Programs

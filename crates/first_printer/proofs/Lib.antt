@@ -1,3 +1,0 @@
-mod Letters
-mod Numbers
-mod SymbolLaws

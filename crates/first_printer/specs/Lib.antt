@@ -1,5 +1,0 @@
-pub mod Words
-pub mod Values
-pub mod Errors
-pub mod Texts
-pub mod Objects

@@ -1,0 +1,4 @@
+mod Lefts
+mod Depth
+mod InOrder
+mod Unfolds

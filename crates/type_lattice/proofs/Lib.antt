@@ -1,0 +1,9 @@
+pub mod Order
+pub mod Rising
+pub mod Passing
+pub mod Merging
+pub mod Comparing
+pub mod Witness
+pub mod Widths
+pub mod Names
+pub mod Parts

@@ -1,0 +1,4 @@
+-- The definitions of this crate.
+pub mod Forms
+pub mod Writing
+pub mod Texts
