@@ -1,5 +1,5 @@
 -- Errors, checks, primitives and the effects of nodes last.
-use Rattle.std.proofs.Common.{◌≡◌, refl, ap, sym, ◌∙◌, ℕ, zero, suc, ◌+◌, Bool, true, false, ◌||◌, ◌==◌, if◌then◌else◌, List, [], ◌∷◌, ◌++◌, length, map, arith, ℤ, Option, Some, None}
+use Rattle.std.proofs.Common.{◌≡◌, refl, ap, ◌∙◌, ℕ, zero, suc, ◌+◌, Bool, true, false, ◌||◌, ◌==◌, if◌then◌else◌, List, [], ◌∷◌, arith, ℤ, Option, Some, None}
 use Rattle.std.proofs.lemmas.Bool.Decides.{nat_tests}
 use Rattle.std.specs.Prelude.{slice_get, pos, negsuc}
 use Rattle.lisp_base.specs.declared.values.SymId.{SymId}
@@ -11,12 +11,12 @@ use Rattle.lisp_base.specs.declared.primitives.Primitive.TheVariants as op
 use Rattle.lisp_base.specs.Sort.{same}
 use Rattle.lisp_base.specs.Spec.{Spec}
 use Rattle.core_form.specs.Facts.{FunctionText, TagText, Facts}
-use Rattle.core_form.specs.State.{Object, Fault, Control, State, Exit}
-use Rattle.core_form.specs.Effect.{Effect, ◌>>=◌, ◌>>◌, pure, change, read, leave, box_all}
-use Rattle.core_form.specs.Force.{Vals, Force, Catch, is_catch, in_force, is_true, make_list, Signalled, Stops, Caught, stop_at, go_to_catch, after_signal, raise, pass, expect, check, check_all, one}
+use Rattle.core_form.specs.State.{Object, Fault, Control, Exit}
+use Rattle.core_form.specs.Effect.{Effect, ◌>>◌, leave, box_all}
+use Rattle.core_form.specs.Force.{Vals, Force, Catch, is_catch, in_force, make_list, Signalled, Stops, Caught, stop_at, go_to_catch, after_signal, raise, pass, expect, check, check_all, one}
 use Rattle.core_form.specs.Primitives.{check_rest, check_row, fitting, one_integer, if_fitting, dividing, quotient, put_at, valid_index, valid_length, new_vector, new_string, element, letter, set_element, set_letter, set_car, set_cdr, list_end, elements, next_char, bound_value, global_value, defined_function, global_function, set_global, act, primitive}
 use Rattle.core_form.specs.Step.{deliver, box_in, place_in, new_variable, change_in, set_variable, capture, make_function, make_local, named_function, function_of, designated, set_function, spread, not_too_many, enter_extent, exit_to, return_from, go_on_at, go_to, find_catch, throw_to, throw}
-use Rattle.core_form.proofs.Lasting.{Lasts, bind_lasts, then_lasts, pure_lasts, read_lasts, fail_lasts, leave_lasts, quiet_lasts, spend_lasts, allot_lasts, boxes_lasts, deliver_more_lasts, look_lasts, walk_lasts, box_lasts, add_lasts, put_lasts, bind_to_lasts, entry_lasts, write_lasts, either_lasts}
+use Rattle.core_form.proofs.Lasting.{Leads, Lasts, bind_leads, then_leads, leave_leads, bind_lasts, then_lasts, pure_lasts, read_lasts, fail_lasts, leave_lasts, quiet_lasts, spend_lasts, allot_lasts, boxes_lasts, deliver_more_lasts, look_lasts, walk_lasts, box_lasts, add_lasts, put_lasts, bind_to_lasts, entry_lasts, write_lasts, either_lasts}
 
 pub one_lasts : {inn : ℕ → Bool} → (v : Val) → Lasts inn (one v)
 unfolding one
@@ -53,7 +53,7 @@ stop_lasts x p = then_lasts (box_lasts _) (fail_lasts x p)
 go_to_catch_lasts : {A : Type 0} (f : Force) (x : Fault) (p : Place) (vs : Vals) (at : ℕ) (o : Option Catch) → slice_get f.catches at ≡ o → Lasts (in_force f) (go_to_catch {A = A} x p vs o)
 unfolding go_to_catch
 go_to_catch_lasts f x p vs at None e = stop_lasts x p
-go_to_catch_lasts f x p vs at (Some c) e = bind_lasts (make_list_lasts vs) (λ v. leave_lasts _ (or_right _ _ (listed f.catches at c e)))
+go_to_catch_lasts f x p vs at (Some c) e = bind_lasts (make_list_lasts vs) (λ v. leave_lasts _ refl (or_right _ _ (listed f.catches at c e)))
 
 after_signal_lasts : {A : Type 0} (f : Force) (x : Fault) (p : Place) (r : Signalled) → Lasts (in_force f) (after_signal {A = A} f x p r)
 unfolding after_signal
@@ -345,26 +345,34 @@ pub enter_extent_lasts : {inn : ℕ → Bool} → (facts : Facts) (b : ℕ) → 
 unfolding enter_extent
 enter_extent_lasts facts b = bind_lasts entry_lasts (λ n. then_lasts (place_lasts _ b _) (pure_lasts n))
 
-tested_lasts : (f : Force) (p : Place) (name : Val) (e : Exit) (b : Bool) → in_force f e.entry ≡ b → Lasts {A = Vals} (in_force f) (if b then box_all e.values >> leave e else raise f (Control name) p)
-tested_lasts f p name e true h = then_lasts (box_lasts _) (leave_lasts e h)
-tested_lasts f p name e false h = raise_lasts f _ p
+tested_leads : (f : Force) (p : Place) (name : Val) (e : Exit) (b : Bool) → in_force f e.entry ≡ b → Leads {A = Vals} (in_force f) (if b then box_all e.values >> leave e else raise f (Control name) p)
+tested_leads f p name e true h = then_leads (box_lasts _).leads (leave_leads e h)
+tested_leads f p name e false h = (raise_lasts f _ p).leads
 
-exit_lasts : (f : Force) (p : Place) (name : Val) (e : Exit) → Lasts (in_force f) (exit_to f p name e)
+tested_lasts : (f : Force) (p : Place) (name : Val) (e : Exit) (b : Bool) → e.tag ≡ None → in_force f e.entry ≡ b → Lasts {A = Vals} (in_force f) (if b then box_all e.values >> leave e else raise f (Control name) p)
+tested_lasts f p name e true apart h = then_lasts (box_lasts _) (leave_lasts e apart h)
+tested_lasts f p name e false apart h = raise_lasts f _ p
+
+exit_leads : (f : Force) (p : Place) (name : Val) (e : Exit) → Leads (in_force f) (exit_to f p name e)
 unfolding exit_to
-exit_lasts f p name e = tested_lasts f p name e (in_force f e.entry) refl
+exit_leads f p name e = tested_leads f p name e (in_force f e.entry) refl
+
+exit_lasts : (f : Force) (p : Place) (name : Val) (e : Exit) → e.tag ≡ None → Lasts (in_force f) (exit_to f p name e)
+unfolding exit_to
+exit_lasts f p name e apart = tested_lasts f p name e (in_force f e.entry) apart refl
 
 pub return_lasts : (facts : Facts) (f : Force) (p : Place) (b : ℕ) (vs : Vals) → Lasts (in_force f) (return_from facts f p b vs)
 unfolding return_from
-return_lasts facts f p b vs = bind_lasts (read_lasts _) (λ n. exit_lasts f p _ _)
+return_lasts facts f p b vs = bind_lasts (read_lasts _) (λ n. exit_lasts f p _ _ refl)
 
-go_on_lasts : (facts : Facts) (f : Force) (p : Place) (t : ℕ) (o : Option TagText) → Lasts (in_force f) (go_on_at facts f p t o)
+go_on_leads : (facts : Facts) (f : Force) (p : Place) (t : ℕ) (o : Option TagText) → Leads (in_force f) (go_on_at facts f p t o)
 unfolding go_on_at
-go_on_lasts facts f p t None = raise_lasts f _ p
-go_on_lasts facts f p t (Some u) = bind_lasts (read_lasts _) (λ n. exit_lasts f p _ _)
+go_on_leads facts f p t None = (raise_lasts f _ p).leads
+go_on_leads facts f p t (Some u) = bind_leads (read_lasts _).leads (λ n. exit_leads f p _ _)
 
-pub go_lasts : (facts : Facts) (f : Force) (p : Place) (t : ℕ) → Lasts (in_force f) (go_to facts f p t)
+pub go_leads : (facts : Facts) (f : Force) (p : Place) (t : ℕ) → Leads (in_force f) (go_to facts f p t)
 unfolding go_to
-go_lasts facts f p t = go_on_lasts facts f p t _
+go_leads facts f p t = go_on_leads facts f p t _
 
 -- a catch that was found is in force
 found_at : (d : Catch) (ds : List Catch) (n : ℕ) (c : Catch) (later : ℕ × Option Catch) → (later.1 ≡ Some c → is_catch c.entry ds ≡ true) → (b : Bool) →
@@ -379,7 +387,7 @@ found v (d ∷ ds) n c h = found_at d ds n c (find_catch v ds (n + 1)) (λ e. fo
 throw_to_lasts : (f : Force) (p : Place) (v : Val) (vs : Vals) (o : Option Catch) → (find_catch v f.catches 0).1 ≡ o → Lasts (in_force f) (throw_to f p v vs o)
 unfolding throw_to
 throw_to_lasts f p v vs None e = raise_lasts f _ p
-throw_to_lasts f p v vs (Some c) e = then_lasts (box_lasts vs) (leave_lasts _ (or_right _ _ (found v f.catches 0 c e)))
+throw_to_lasts f p v vs (Some c) e = then_lasts (box_lasts vs) (leave_lasts _ refl (or_right _ _ (found v f.catches 0 c e)))
 
 pub throw_lasts : (f : Force) (p : Place) (v : Val) (vs : Vals) → Lasts (in_force f) (throw f p v vs)
 unfolding throw

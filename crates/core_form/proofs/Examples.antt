@@ -1,6 +1,6 @@
 -- What small programs do, computed.
-use Rattle.std.specs.Prelude.{◌≡◌, refl, ℕ, ◌+◌, ◌^◌, ◌*◌, ◌-◌, pos, negsuc, List, [], ◌∷◌, map, codes, Option, Some, None}
-use Rattle.lisp_base.specs.declared.values.SymKind.TheVariants.{Plain, Keyword}
+use Rattle.std.specs.Prelude.{◌≡◌, refl, ℕ, ◌+◌, ◌^◌, ◌*◌, ◌-◌, pos, negsuc, List, [], ◌∷◌, map, codes, Some, None}
+use Rattle.lisp_base.specs.declared.values.SymKind.TheVariants.{Plain}
 use Rattle.lisp_base.specs.declared.values.Val.{Val}
 use Rattle.lisp_base.specs.declared.values.Val.TheVariants.{Int, Char, Sym, Ref}
 use Rattle.lisp_base.specs.declared.values.Place.{Place}
@@ -13,61 +13,61 @@ use Rattle.lisp_base.specs.Sort.{nil, truth, symbol, object}
 use Rattle.lisp_base.specs.Spec.{Spec, Named, Integer}
 use Rattle.lisp_base.specs.Seen.{Tree, Bad, Number, Both, Name}
 use Rattle.core_form.specs.declared.tree.Variable.TheVariants.{Lexical}
-use Rattle.core_form.specs.Tree.{Parameter, Core, Quote, Local, SetLocal, Global, If, Progn, Let, Function, Labels, CallLocal, CallGlobal, Funcall, MvCall, FunLocal, SetFun, Primitive, The, Block, ReturnFrom, Tagbody, Go, Catch, Throw, Unwind, Cores, no_core, core, no_binding, binding, no_optional, lambda, no_definition, define, no_item, tag, step, node_count, Top}
+use Rattle.core_form.specs.Tree.{Parameter, Core, Quote, Local, SetLocal, Global, If, Progn, Let, Function, Labels, CallLocal, CallGlobal, Funcall, MvCall, FunLocal, SetFun, Primitive, The, Block, ReturnFrom, Tagbody, Go, Catch, Throw, Unwind, no_core, core, no_binding, binding, no_optional, lambda, no_definition, define, no_item, tag, step, node_count, Top}
 use Rattle.core_form.specs.State.{Symbol, Object, TypeError, Index, Overflow, ZeroDivide, Unbound, Undefined, Arguments, Control, EndOfFile, Simple, work, heap_need, stack_need}
 use Rattle.core_form.specs.Run.{Outcome}
-use Rattle.core_form.specs.Eval.{Program, evaluate, Ending, Value, Failed, Unfinished, Astray, ending_of, output_of, counts_of, state_of}
+use Rattle.core_form.specs.Eval.{Program, evaluate, Ending, Value, Failed, Unfinished, Astray, ending_of, output_of, counts_of, state_of, taken_of}
 use Rattle.core_form.specs.Seen.{tree_of}
 use Rattle.core_form.specs.Everything.{everything}
 
 -- ---- programs
 
-abbrev plain : List ℕ → Symbol
+abbrev pub plain : List ℕ → Symbol
 plain letters = record { name = letters; kind = Plain }
 
-abbrev names : List Symbol
+abbrev pub names : List Symbol
 names =
     plain (codes "NIL") ∷ plain (codes "T") ∷ plain (codes "+") ∷ plain (codes "TRUNCATE") ∷ plain (codes "FLOOR") ∷ plain (codes "X") ∷ plain (codes "B") ∷ plain (codes "K") ∷ plain (codes "G") ∷ plain (codes "F") ∷ []
 
-abbrev top : Core → Top
+abbrev pub top : Core → Top
 top c = record { place = File 0 0; core = c; nodes = node_count c }
 
-abbrev program : List Core → Program
+abbrev pub program : List Core → Program
 program forms = record { prelude = []; forms = map top forms; heap = []; symbols = names }
 
 -- the program of one form, with this input and a fuel of 9
-abbrev run_on : List ℕ → Core → Outcome Val
+abbrev pub run_on : List ℕ → Core → Outcome Val
 run_on input c = evaluate (program (c ∷ [])) input 9
 
-abbrev run : Core → Outcome Val
+abbrev pub run : Core → Outcome Val
 run c = run_on [] c
 
-abbrev ends : Core → Ending
+abbrev pub ends : Core → Ending
 ends c = ending_of (run c)
 
-abbrev at : ℕ → Place
+abbrev pub at : ℕ → Place
 at n = File n 0
 
-abbrev int : ℕ → ℕ → Core
+abbrev pub int : ℕ → ℕ → Core
 int p n = Quote (at p) (Int (pos n))
 
-abbrev letter : ℕ → ℕ → Core
+abbrev pub letter : ℕ → ℕ → Core
 letter p c = Quote (at p) (Char c)
 
-abbrev null : ℕ → Core
+abbrev pub null : ℕ → Core
 null p = Quote (at p) nil
 
-abbrev on_one : Operation → ℕ → Core → Core
+abbrev pub on_one : Operation → ℕ → Core → Core
 on_one q p e = Primitive (at p) q (core e no_core)
 
-abbrev on_two : Operation → ℕ → Core → Core → Core
+abbrev pub on_two : Operation → ℕ → Core → Core → Core
 on_two q p d e = Primitive (at p) q (core d (core e no_core))
 
-abbrev variable : ℕ → List Spec → Parameter
+abbrev pub variable : ℕ → List Spec → Parameter
 variable n types = record { variable = Lexical n (symbol 5); types = types }
 
 -- (write-char e)
-abbrev writing : ℕ → Core → Core
+abbrev pub writing : ℕ → Core → Core
 writing p e = on_one op.WriteChar p e
 
 -- (read-char nil nil)
@@ -76,7 +76,7 @@ reading p = Primitive (at p) op.ReadChar (core (null p) (core (null p) (core (nu
 
 -- ---- reading and writing a character
 
-abbrev echo : Core
+abbrev pub echo : Core
 echo = writing 0 (reading 12)
 
 echo-value : ending_of (run_on (233 ∷ []) echo) ≡ Value (Char 233)
@@ -98,6 +98,11 @@ echo-stack = refl
 echo-empty : ends echo ≡ Failed (TypeError nil (Named name.Character)) (at 0)
 unfolding everything
 echo-empty = refl
+
+-- a type is tested before anything is written
+echo-empty-output : output_of (run echo) ≡ []
+unfolding everything
+echo-empty-output = refl
 
 -- ---- integers
 
@@ -125,7 +130,7 @@ unfolding everything
 truncated = refl
 
 -- all values of a form, as a list: a function of &REST on them
-abbrev listing : Core → Core
+abbrev pub listing : Core → Core
 listing e = MvCall (at 0) (Function (at 0) (lambda 0 [] no_optional (Some (variable 1 [])) (Local (at 0) 1))) (core e no_core)
 
 abbrev seven : Core
@@ -138,7 +143,7 @@ seen_value (Failed x p) store = Bad
 seen_value Unfinished store = Bad
 seen_value Astray store = Bad
 
-abbrev seen : Core → Tree
+abbrev pub seen : Core → Tree
 seen c = seen_value (ends c) (state_of (run c)).store
 
 -- (multiple-value-list (floor -7 2)) and (multiple-value-list (truncate -7 2))
@@ -180,6 +185,11 @@ counting-ending = refl
 counting-output : output_of (run counting) ≡ codes "1234"
 unfolding everything
 counting-output = refl
+
+-- one unit of fuel for each GO
+counting-taken : taken_of (run counting) ≡ 4
+unfolding everything
+counting-taken = refl
 
 counting-short : ending_of (evaluate (program (counting ∷ [])) [] 3) ≡ Unfinished
 unfolding everything

@@ -1,5 +1,5 @@
--- Effects: no counter falls, no output is taken back, and an exit goes to an entry in force.
-use Rattle.std.proofs.Common.{◌≡◌, refl, ap, sym, ◌∙◌, ℕ, zero, suc, ◌+◌, max, Bool, true, false, ◌||◌, if◌then◌else◌, List, [], ◌∷◌, ◌++◌, append_assoc, arith, Option, Some, None}
+-- Effects: no counter falls, no output is taken back, no fuel is taken, and an exit goes to an entry in force.
+use Rattle.std.proofs.Common.{◌≡◌, refl, ap, sym, ◌∙◌, ℕ, ◌+◌, max, Bool, true, false, if◌then◌else◌, List, [], ◌∷◌, ◌++◌, append_assoc, arith, None}
 use Rattle.core_form.specs.State.{Fault, Counts, State, Exit}
 use Rattle.core_form.specs.Effect.{Ended, Gave, Left, Failed, Effect, and_then, ◌>>=◌, ◌>>◌, pure, change, read, leave, fail, counting, spend, allot, boxes_more, deliver_more, look_at, walk_over, stack_at, hold, begin, box_all, add, put, bind_to, new_entry, write}
 use Rattle.lisp_base.specs.declared.values.Val.{Val}
@@ -67,9 +67,21 @@ Goes inn (Gave a s) = Unit {0}
 Goes inn (Left e s) = inn e.entry ≡ true
 Goes inn (Failed x p s) = Unit {0}
 
-pub record Lasts {A : Type 0} (inn : ℕ → Bool) (m : Effect A) : Type 0 where
+-- no exit is a jump to a tag
+abbrev pub IsApart : {A : Type 0} → Ended A → Type 0
+IsApart (Gave a s) = Unit {0}
+IsApart (Left e s) = e.tag ≡ None
+IsApart (Failed x p s) = Unit {0}
+
+-- an effect that takes no fuel; its exit may be a jump
+pub record Leads {A : Type 0} (inn : ℕ → Bool) (m : Effect A) : Type 0 where
   pub grows : (s : State) → Grows s (after (m s))
   pub goes : (s : State) → Goes inn (m s)
+  pub quiet : (s : State) → (after (m s)).taken ≡ s.taken
+
+pub record Lasts {A : Type 0} (inn : ℕ → Bool) (m : Effect A) : Type 0 where
+  pub leads : Leads inn m
+  pub apart : (s : State) → IsApart (m s)
 
 then_grows : {A B : Type 0} → (g : A → Effect B) → ((a : A) (t : State) → Grows t (after (g a t))) → (o : Ended A) → Grows (after o) (after (and_then o g))
 then_grows g h (Gave a t) = h a t
@@ -81,12 +93,33 @@ then_goes inn g h (Gave a t) i = h a t
 then_goes inn g h (Left e t) i = i
 then_goes inn g h (Failed x p t) i = tt
 
-pub bind_lasts : {A B : Type 0} {inn : ℕ → Bool} {m : Effect A} {g : A → Effect B} → Lasts inn m → ((a : A) → Lasts inn (g a)) → Lasts inn (m >>= g)
+then_quiet : {A B : Type 0} → (g : A → Effect B) → ((a : A) (t : State) → (after (g a t)).taken ≡ t.taken) → (o : Ended A) → (after (and_then o g)).taken ≡ (after o).taken
+then_quiet g h (Gave a t) = h a t
+then_quiet g h (Left e t) = refl
+then_quiet g h (Failed x p t) = refl
+
+then_apart : {A B : Type 0} → (g : A → Effect B) → ((a : A) (t : State) → IsApart (g a t)) → (o : Ended A) → IsApart o → IsApart (and_then o g)
+then_apart g h (Gave a t) i = h a t
+then_apart g h (Left e t) i = i
+then_apart g h (Failed x p t) i = tt
+
+pub bind_leads : {A B : Type 0} {inn : ℕ → Bool} {m : Effect A} {g : A → Effect B} → Leads inn m → ((a : A) → Leads inn (g a)) → Leads inn (m >>= g)
 unfolding ◌>>=◌
-bind_lasts {inn = inn} {m = m} {g = g} h i = record {
+bind_leads {inn = inn} {m = m} {g = g} h i = record {
   grows = λ s. grows_on (h.grows s) (then_grows g (λ a. (i a).grows) (m s));
   goes = λ s. then_goes inn g (λ a. (i a).goes) (m s) (h.goes s);
+  quiet = λ s. then_quiet g (λ a. (i a).quiet) (m s) ∙ h.quiet s;
 }
+
+pub then_leads : {A B : Type 0} {inn : ℕ → Bool} {m : Effect A} {g : Effect B} → Leads inn m → Leads inn g → Leads inn (m >> g)
+then_leads h i = bind_leads h (λ a. i)
+
+bind_apart : {A B : Type 0} {inn : ℕ → Bool} {m : Effect A} {g : A → Effect B} → Lasts inn m → ((a : A) → Lasts inn (g a)) → (s : State) → IsApart ((m >>= g) s)
+unfolding ◌>>=◌
+bind_apart {m = m} {g = g} h i s = then_apart g (λ a. (i a).apart) (m s) (h.apart s)
+
+pub bind_lasts : {A B : Type 0} {inn : ℕ → Bool} {m : Effect A} {g : A → Effect B} → Lasts inn m → ((a : A) → Lasts inn (g a)) → Lasts inn (m >>= g)
+bind_lasts h i = record { leads = bind_leads h.leads (λ a. (i a).leads); apart = bind_apart h i }
 
 pub then_lasts : {A B : Type 0} {inn : ℕ → Bool} {m : Effect A} {g : Effect B} → Lasts inn m → Lasts inn g → Lasts inn (m >> g)
 then_lasts h i = bind_lasts h (λ a. i)
@@ -95,23 +128,30 @@ then_lasts h i = bind_lasts h (λ a. i)
 
 pub pure_lasts : {A : Type 0} {inn : ℕ → Bool} → (a : A) → Lasts inn (pure a)
 unfolding pure
-pure_lasts a = record { grows = λ s. grows_same s; goes = λ s. tt }
+pure_lasts a = record { leads = record { grows = λ s. grows_same s; goes = λ s. tt; quiet = λ s. refl }; apart = λ s. tt }
 
 pub read_lasts : {A : Type 0} {inn : ℕ → Bool} → (f : State → A) → Lasts inn (read f)
 unfolding read
-read_lasts f = record { grows = λ s. grows_same s; goes = λ s. tt }
+read_lasts f = record { leads = record { grows = λ s. grows_same s; goes = λ s. tt; quiet = λ s. refl }; apart = λ s. tt }
 
 pub fail_lasts : {A : Type 0} {inn : ℕ → Bool} → (x : Fault) (p : Place) → Lasts inn (fail {A = A} x p)
 unfolding fail
-fail_lasts x p = record { grows = λ s. grows_same s; goes = λ s. tt }
+fail_lasts x p = record { leads = record { grows = λ s. grows_same s; goes = λ s. tt; quiet = λ s. refl }; apart = λ s. tt }
 
-pub leave_lasts : {A : Type 0} {inn : ℕ → Bool} → (e : Exit) → inn e.entry ≡ true → Lasts inn (leave {A = A} e)
+pub leave_leads : {A : Type 0} {inn : ℕ → Bool} → (e : Exit) → inn e.entry ≡ true → Leads inn (leave {A = A} e)
 unfolding leave
-leave_lasts e h = record { grows = λ s. grows_same s; goes = λ s. h }
+leave_leads e h = record { grows = λ s. grows_same s; goes = λ s. h; quiet = λ s. refl }
 
-pub change_lasts : {inn : ℕ → Bool} → (f : State → State) → ((s : State) → Grows s (f s)) → Lasts inn (change f)
+leave_apart : (A : Type 0) (e : Exit) → e.tag ≡ None → (s : State) → IsApart (leave {A = A} e s)
+unfolding leave
+leave_apart A e h s = h
+
+pub leave_lasts : {A : Type 0} {inn : ℕ → Bool} → (e : Exit) → e.tag ≡ None → inn e.entry ≡ true → Lasts inn (leave {A = A} e)
+leave_lasts {A = A} e apart h = record { leads = leave_leads e h; apart = leave_apart A e apart }
+
+pub change_lasts : {inn : ℕ → Bool} → (f : State → State) → ((s : State) → Grows s (f s)) → ((s : State) → (f s).taken ≡ s.taken) → Lasts inn (change f)
 unfolding change
-change_lasts f g = record { grows = g; goes = λ s. tt }
+change_lasts f g q = record { leads = record { grows = g; goes = λ s. tt; quiet = q }; apart = λ s. tt }
 
 -- a change that neither writes nor counts
 abbrev pub Quiet : (State → State) → Type 0
@@ -136,11 +176,11 @@ quiet_grows s t o c n = record {
 }
 
 pub quiet_lasts : {inn : ℕ → Bool} → (f : State → State) → Quiet f → Lasts inn (change f)
-quiet_lasts f q = change_lasts f (λ s. quiet_grows s (f s) (q s).0 (q s).1 (q s).2)
+quiet_lasts f q = change_lasts f (λ s. quiet_grows s (f s) (q s).0 (q s).1 (q s).2) (λ s. (q s).2)
 
 counting_lasts : {inn : ℕ → Bool} → (f : Counts → Counts) → ((c : Counts) → CountsGrow c (f c)) → Lasts inn (counting f)
 unfolding counting
-counting_lasts f g = change_lasts (λ s. record s { counts = f s.counts }) (λ s. record { output = ([], refl); counts = g s.counts; taken = omega arith })
+counting_lasts f g = change_lasts (λ s. record s { counts = f s.counts }) (λ s. record { output = ([], refl); counts = g s.counts; taken = omega arith }) (λ s. refl)
 
 pub spend_lasts : {inn : ℕ → Bool} → (n : ℕ) → Lasts inn (spend n)
 unfolding spend
@@ -184,7 +224,7 @@ box_lasts vs = allot_lasts _
 
 pub add_lasts : {inn : ℕ → Bool} → (o : Object) → Lasts inn (add o)
 unfolding add
-add_lasts o = record { grows = λ s. quiet_grows s _ refl refl refl; goes = λ s. tt }
+add_lasts o = record { leads = record { grows = λ s. quiet_grows s _ refl refl refl; goes = λ s. tt; quiet = λ s. refl }; apart = λ s. tt }
 
 pub put_lasts : {inn : ℕ → Bool} → (a : ℕ) (o : Object) → Lasts inn (put a o)
 unfolding put
@@ -196,11 +236,11 @@ bind_to_lasts x v = quiet_lasts _ (λ s. (refl, refl, refl))
 
 pub entry_lasts : {inn : ℕ → Bool} → Lasts inn new_entry
 unfolding new_entry
-entry_lasts = record { grows = λ s. quiet_grows s _ refl refl refl; goes = λ s. tt }
+entry_lasts = record { leads = record { grows = λ s. quiet_grows s _ refl refl refl; goes = λ s. tt; quiet = λ s. refl }; apart = λ s. tt }
 
 pub write_lasts : {inn : ℕ → Bool} → (c : ℕ) → Lasts inn (write c)
 unfolding write
-write_lasts c = change_lasts (λ s. record s { output = c ∷ s.output }) (λ s. record { output = (c ∷ [], refl); counts = counts_same s.counts; taken = omega arith })
+write_lasts c = change_lasts (λ s. record s { output = c ∷ s.output }) (λ s. record { output = (c ∷ [], refl); counts = counts_same s.counts; taken = omega arith }) (λ s. refl)
 
 pub either_lasts : {A : Type 0} {inn : ℕ → Bool} {m k : Effect A} → (b : Bool) → Lasts inn m → Lasts inn k → Lasts inn (if b then m else k)
 either_lasts true h i = h

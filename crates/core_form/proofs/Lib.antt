@@ -1,6 +1,22 @@
-mod Examples
+pub mod Examples
+mod FurtherExamples
 pub mod ReadingLemmas
+pub mod Numbers
+pub mod NodeLists
+pub mod NodeChecks
+pub mod NodeTotals
+pub mod NodeCounts
+pub mod NodeReading
 pub mod Lasting
 pub mod Acting
 pub mod Steady
 pub mod Fuel
+pub mod Taken
+pub mod Layered
+pub mod TextPages
+pub mod TextTypes
+pub mod TextRequired
+pub mod TextLoops
+pub mod TextWalk
+pub mod TextLines
+pub mod TextNodes

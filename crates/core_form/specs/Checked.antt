@@ -1,10 +1,10 @@
 -- Trees that a program may have: each number used is bound round it, and operators take as many forms as they may. (This project's own.)
-use Rattle.std.specs.Prelude.{◌≡◌, ℕ, Bool, true, false, ◌&&◌, ◌||◌, nat_le, ◌==◌, List, [], ◌∷◌, ◌++◌, map, length, flat_map, Option, Some, None}
+use Rattle.std.specs.Prelude.{◌≡◌, ℕ, Bool, true, ◌&&◌, nat_le, ◌==◌, List, [], ◌∷◌, ◌++◌, length, Option, Some, None}
 use Rattle.lisp_base.specs.Spec.{Spec}
 use Rattle.lisp_base.specs.declared.primitives.Primitive.{Primitive as Operation}
 use Rattle.core_form.specs.Tree.{Parameter, Core, Quote, Local, SetLocal, Global, SetGlobal, If, Progn, Let, Function, Labels, CallLocal, CallGlobal, Funcall, Apply, MvCall, FunLocal, FunGlobal, SetFun, Primitive, Is, The, Block, ReturnFrom, Tagbody, Go, Catch, Throw, Unwind, Values, MvProg1, Cores, no_core, core, cores_length, Bindings, no_binding, binding, Optionals, no_optional, optional, Lambda, lambda, Definitions, no_definition, define, Items, no_item, tag, step, node_count, Top}
 use Rattle.core_form.specs.Facts.{has_number, parameter_number, binding_parameters, if_given}
-use Rattle.core_form.specs.Primitives.{Row, row_of, most_values, most_arguments}
+use Rattle.core_form.specs.Primitives.{row_of, most_values, most_arguments}
 
 -- the numbers that are bound round a node, by what they name
 pub record Scope : Type 0 where
@@ -45,14 +45,14 @@ tag_numbers (step e is) = tag_numbers is
 abbrev pub optional_numbers : Parameter → Option Parameter → List ℕ
 optional_numbers x s = parameter_number x ++ parameter_numbers (if_given s)
 
-abbrev pub with_optional_variables : Optionals → Scope → Scope
-with_optional_variables no_optional sc = sc
-with_optional_variables (optional x e s os) sc = with_optional_variables os (with_variables (optional_numbers x s) sc)
+abbrev pub optionals_numbers : Optionals → List ℕ
+optionals_numbers no_optional = []
+optionals_numbers (optional x e s os) = optional_numbers x s ++ optionals_numbers os
 
 -- what is bound round the body of a function
 abbrev pub in_body : List Parameter → Optionals → Option Parameter → Scope → Scope
 in_body xs os r sc =
-    with_variables (parameter_numbers (if_given r)) (with_optional_variables os (with_variables (parameter_numbers xs) sc))
+    with_variables (parameter_numbers (if_given r)) (with_variables (optionals_numbers os) (with_variables (parameter_numbers xs) sc))
 
 -- whether a primitive takes so many arguments
 abbrev pub row_takes : (fixed : ℕ) → (rest : Option Spec) → ℕ → Bool
@@ -107,14 +107,15 @@ abbrev mutual
   values_checked sc no_binding = true
   values_checked sc (binding x e bs) = is_checked sc e && values_checked sc bs
 
-  -- the form for an optional parameter stands behind the parameters before it
   pub lambda_checked : Scope → Lambda → Bool
   lambda_checked sc (lambda k xs os r e) =
-      optionals_checked (with_variables (parameter_numbers xs) sc) os && is_checked (in_body xs os r sc) e
+      optionals_checked (with_variables (parameter_numbers xs) sc) [] os && is_checked (in_body xs os r sc) e
 
-  pub optionals_checked : Scope → Optionals → Bool
-  optionals_checked sc no_optional = true
-  optionals_checked sc (optional x e s os) = is_checked sc e && optionals_checked (with_variables (optional_numbers x s) sc) os
+  -- the form for an optional parameter stands behind the variables of the parameters before it
+  pub optionals_checked : Scope → (before : List ℕ) → Optionals → Bool
+  optionals_checked sc before no_optional = true
+  optionals_checked sc before (optional x e s os) =
+      is_checked (with_variables before sc) e && optionals_checked sc (before ++ optional_numbers x s) os
 
   pub definitions_checked : Scope → Definitions → Bool
   definitions_checked sc no_definition = true

@@ -1,14 +1,13 @@
 -- What a program means. (ANSI Common Lisp, chapters 3 and 5; what is counted is this project's own.)
-use Rattle.std.specs.Prelude.{ℕ, zero, suc, ◌+◌, ◌*◌, ◌≡◌, pos, Bool, true, false, not, ◌&&◌, if◌then◌else◌, nat_lt, nat_eq, ◌==◌, List, [], ◌∷◌, ◌++◌, length, map, reverse, zip, slice_get, codes, Option, Some, None}
+use Rattle.std.specs.Prelude.{ℕ, zero, suc, ◌+◌, Bool, true, false, not, if◌then◌else◌, nat_lt, ◌==◌, List, [], ◌∷◌, ◌++◌, length, map, reverse, zip, slice_get, codes, Option, Some, None}
 use Rattle.lisp_base.specs.declared.values.SymId.{SymId}
 use Rattle.lisp_base.specs.declared.values.SymKind.{SymKind}
 use Rattle.lisp_base.specs.declared.values.SymKind.TheVariants as symbol_kinds
 use Rattle.lisp_base.specs.declared.values.Val.{Val}
-use Rattle.lisp_base.specs.declared.values.Val.TheVariants.{Int, Char, Sym, Ref}
+use Rattle.lisp_base.specs.declared.values.Val.TheVariants.{Sym, Ref}
 use Rattle.lisp_base.specs.declared.values.Place.{Place}
 use Rattle.lisp_base.specs.Sort.{nil, symbol, object, number_of}
 use Rattle.lisp_base.specs.Spec.{spec_size}
-use Rattle.lisp_base.specs.Membership.{SymbolKind}
 use Rattle.core_form.specs.declared.tree.Variable.{Variable}
 use Rattle.core_form.specs.declared.tree.Variable.TheVariants.{Lexical, Special}
 use Rattle.core_form.specs.Arithmetic.{arithmetic}
@@ -16,9 +15,9 @@ use Rattle.core_form.specs.Tree.{Parameter, Core, Quote, Local, SetLocal, Global
 use Rattle.core_form.specs.Facts.{FunctionText, Facts, Code, has_number, lookup, facts_of, function_table, functions_in, functions_count, prelude_functions, binding_parameters, tagbody_number, closed_of}
 use Rattle.core_form.specs.State.{Symbol, Object, Fun, Fault, Arguments, Counts, State, first_of_values}
 use Rattle.core_form.specs.Effect.{spend, allot, hold, stack_at, begin, box_all, change, read, new_entry}
-use Rattle.core_form.specs.Force.{Vals, Force, is_true, symbol_kinds_of, keeping, make_list, raise, object_at, check, check_all, holds, one}
+use Rattle.core_form.specs.Force.{Vals, is_true, symbol_kinds_of, keeping, make_list, raise, object_at, check, check_all, holds, one}
 use Rattle.core_form.specs.Primitives.{truth_of, primitive, global_value, global_function, set_global, value_in, give}
-use Rattle.core_form.specs.Step.{Text, Around, inside, at_word, plain, with_tail, forced, deep, held, new_variable, set_variable, capture, make_function, make_local, code_number, designated, set_function, takes, frame_words, all_lexical, entered, spread, not_too_many, enter_extent, with_entry, return_from, go_to, with_catch, throw}
+use Rattle.core_form.specs.Step.{Around, inside, at_word, plain, with_tail, forced, deep, held, new_variable, set_variable, capture, make_function, make_local, code_number, designated, set_function, takes, frame_words, all_lexical, entered, spread, not_too_many, enter_extent, with_entry, return_from, go_to, with_catch, throw}
 use Rattle.core_form.specs.Run.{Outcome, Gives, Leaves, Fails, NotYet, Run, ◌>>=◌, ◌>>◌, perform, pure, stop, take_fuel, first, visit, block_round, catch_round, tagbody_round, restoring, guarded, framed, in_frame}
 
 -- a call of a function: the surroundings of the call, the number of the function, what it holds of the variables that it closes
@@ -357,3 +356,7 @@ output_of o = reverse (state_of o).output
 
 abbrev pub counts_of : {A : Type 0} → Outcome A → Counts
 counts_of o = (state_of o).counts
+
+-- the fuel that was taken
+abbrev pub taken_of : {A : Type 0} → Outcome A → ℕ
+taken_of o = (state_of o).taken

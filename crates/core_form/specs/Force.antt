@@ -1,15 +1,15 @@
 -- What is in force while a program runs, how an error is signalled, and how a type is tested. (Errors after ANSI Common Lisp 9.1 and 4.2; the rest is this project's own.)
-use Rattle.std.specs.Prelude.{ℕ, zero, suc, ◌+◌, Bool, true, false, not, ◌||◌, if◌then◌else◌, ◌==◌, List, [], ◌∷◌, map, slice_get, option_map, Option, Some, None}
+use Rattle.std.specs.Prelude.{ℕ, suc, ◌+◌, Bool, true, false, not, ◌||◌, if◌then◌else◌, ◌==◌, List, [], ◌∷◌, map, slice_get, option_map, Option, Some, None}
 use Rattle.lisp_base.specs.declared.values.SymId.{SymId}
 use Rattle.lisp_base.specs.declared.values.SymKind.{SymKind}
 use Rattle.lisp_base.specs.declared.values.SymKind.TheVariants as symbol_kinds
 use Rattle.lisp_base.specs.declared.values.Val.{Val}
 use Rattle.lisp_base.specs.declared.values.Val.TheVariants.{Int, Char, Sym, Ref}
 use Rattle.lisp_base.specs.declared.values.Place.{Place}
-use Rattle.lisp_base.specs.Sort.{nil, symbol, number_of, index_of}
+use Rattle.lisp_base.specs.Sort.{nil, symbol, index_of}
 use Rattle.lisp_base.specs.Spec.{Spec, spec_size}
 use Rattle.lisp_base.specs.Membership.{SymbolKind, KindAt, has, is_symbol_number}
-use Rattle.core_form.specs.State.{Symbol, Object, Pair, kind_of_object, Fault, TypeError, data_of, State, Exit}
+use Rattle.core_form.specs.State.{Symbol, Object, Pair, kind_of_object, Fault, TypeError, data_of, State}
 use Rattle.core_form.specs.Effect.{Effect, ◌>>=◌, ◌>>◌, pure, read, leave, fail, spend, allot, box_all, look_at, add}
 
 abbrev pub Vals : Type 0
@@ -112,7 +112,7 @@ stop_at x p = box_all (data_of x) >> fail x p
 
 unfoldable pub go_to_catch : {A : Type 0} → Fault → Place → Vals → Option Catch → Effect A
 go_to_catch x p vs None = stop_at x p
-go_to_catch x p vs (Some c) = make_list vs >>= (λ v. leave (record { entry = c.entry; tag = 0; values = v ∷ [] }))
+go_to_catch x p vs (Some c) = make_list vs >>= (λ v. leave (record { entry = c.entry; tag = None; values = v ∷ [] }))
 
 unfoldable pub after_signal : {A : Type 0} → Force → Fault → Place → Signalled → Effect A
 after_signal f x p Stops = stop_at x p

@@ -1,6 +1,8 @@
--- What is so of every program: checked trees, symbols and data that are there, and preludes of definitions. (This project's own.)
-use Rattle.std.specs.Prelude.{◌≡◌, ℕ, suc, ◌+◌, ◌-◌, ◌^◌, ◌<◌, ◌≤◌, pos, negsuc, Bool, true, List, [], ◌∷◌, ◌++◌, length, map, flat_map, slice_get, chars, All, Contains, Option, Some, None}
+-- What is so of every program: checked trees whose binders are counted and whose declared types are tested, lawful types,
+-- symbols and data that are there, functions given to symbols, and preludes of definitions. (This project's own.)
+use Rattle.std.specs.Prelude.{◌≡◌, ◌≢◌, ℕ, suc, ◌<◌, ◌≤◌, Bool, true, false, ◌&&◌, ◌==◌, List, [], ◌∷◌, ◌++◌, length, map, flat_map, slice_get, chars, All, Contains, Option, Some, None}
 use Rattle.std.specs.Char.{IsScalar}
+use Rattle.std.specs.List.{AllPairs}
 use Rattle.lisp_base.specs.declared.values.Place.{Place}
 use Rattle.lisp_base.specs.declared.values.Place.TheVariants as places
 use Rattle.lisp_base.specs.declared.values.ObjId.{ObjId}
@@ -9,17 +11,19 @@ use Rattle.lisp_base.specs.declared.values.Val.{Val}
 use Rattle.lisp_base.specs.declared.values.Val.TheVariants.{Int, Char, Sym, Ref}
 use Rattle.lisp_base.specs.Sort.{number_of, index_of}
 use Rattle.lisp_base.specs.Spec.{Spec, Named, Integer, Signed, Unsigned, Mod, Member, Eql, And, Or, Not, Specs, no_spec, spec}
+use Rattle.lisp_base.specs.Lawful.{IsLawful as IsLawfulType}
+use Rattle.lisp_base.specs.Tables.{Table}
 use Rattle.lisp_base.specs.Tables as table
 use Rattle.core_form.specs.declared.tree.Variable.{Variable}
 use Rattle.core_form.specs.declared.tree.Variable.TheVariants.{Lexical, Special}
 use Rattle.core_form.specs.declared.tree.TopForm.{TopForm}
-use Rattle.core_form.specs.Tree.{Parameter, Core, Quote, Local, SetLocal, Global, SetGlobal, If, Progn, Let, Function, Labels, CallLocal, CallGlobal, Funcall, Apply, MvCall, FunLocal, FunGlobal, SetFun, Primitive, Is, The, Block, ReturnFrom, Tagbody, Go, Catch, Throw, Unwind, Values, MvProg1, Cores, no_core, core, Bindings, Lambda, lambda, Definitions, no_definition, define, Items, no_item, tag, step, Top, place_of}
+use Rattle.core_form.specs.Tree.{Parameter, Core, Quote, SetLocal, Global, SetGlobal, If, Progn, Let, Function, Labels, CallGlobal, Funcall, FunLocal, FunGlobal, SetFun, Is, The, Block, Tagbody, no_core, core, Bindings, no_binding, binding, no_optional, Lambda, lambda, Definitions, no_definition, define, Items, no_item, tag, step, Top, place_of}
 use Rattle.core_form.specs.Reading.{tops_of}
-use Rattle.core_form.specs.Facts.{FunctionText, at_nodes, functions_in, parameters_in}
+use Rattle.core_form.specs.Facts.{FunctionText, gather, at_nodes, functions_in, function_given, tag_texts, parameter_number, binding_parameters, function_parameters, parameters_in}
 use Rattle.core_form.specs.State.{Symbol, Object, Pair, Vector, Str, Fun, Cell}
 use Rattle.core_form.specs.Primitives.{in_range, greatest_length}
 use Rattle.core_form.specs.Eval.{Program}
-use Rattle.core_form.specs.Checked.{TopsAreBuilt}
+use Rattle.core_form.specs.Checked.{function_numbers, tag_numbers, TopsAreBuilt}
 
 -- ---- a program of the symbol table and the heap
 
@@ -178,30 +182,145 @@ quoted_here _ = []
 abbrev pub quoted : Core → List Val
 quoted e = at_nodes quoted_here e
 
--- ---- functions
+-- ---- numbers
 
--- the numbers of the functions of a form count from 0
-abbrev pub numbers_from : ℕ → List FunctionText → Type 0
-numbers_from n [] = Unit {0}
-numbers_from n (f ∷ fs) = (number f.lambda ≡ n) × numbers_from (suc n) fs
+-- these numbers are n, n + 1, n + 2 and so on
+abbrev pub CountFrom : ℕ → List ℕ → Type 0
+CountFrom n [] = Unit {0}
+CountFrom n (m ∷ ms) = (m ≡ n) × CountFrom (suc n) ms
+
+abbrev pub function_number : FunctionText → ℕ
+function_number f = number f.lambda
   where
     number : Lambda → ℕ
     number (lambda k xs os r e) = k
 
--- the tree of a definition of a global function: it is given to its name, which is the value
-pub record IsDefinition (e : Core) : Type 0 where
-  pub place : Place
+-- what a node binds: lexical variables, local functions, a block or tags, in the order of the text
+abbrev pub bound_here : Core → List ℕ
+bound_here (Let p bs e) = flat_map parameter_number (binding_parameters bs)
+bound_here (Labels p ds e) = function_numbers ds
+bound_here (Block p b n e) = b ∷ []
+bound_here (Tagbody p is) = tag_numbers is
+bound_here _ = []
+
+-- the lexical variables of a function: those it requires, each optional one with its flag, that of the rest
+abbrev pub bound_by : FunctionText → List ℕ
+bound_by f = flat_map parameter_number (function_parameters f)
+
+-- all that a form binds, what a node binds before what its parts bind
+abbrev pub bound_in : Core → List ℕ
+bound_in e = gather bound_here bound_by e
+
+abbrev pub tags_in : Core → List Val
+tags_in e = map (λ t. t.1.name) (at_nodes tag_texts e)
+
+-- a tag is a symbol or an integer
+abbrev pub is_tag : Val → Bool
+is_tag (Int z) = in_range z
+is_tag (Char c) = false
+is_tag (Sym s) = true
+is_tag (Ref o) = false
+
+-- ---- types
+
+abbrev pub types_here : Core → List Spec
+types_here (Is p t e) = t ∷ []
+types_here (The p t e) = t ∷ []
+types_here _ = []
+
+-- all types of a form: those that it tests, and those that are declared of its variables
+abbrev pub types_in : Core → List Spec
+types_in e = at_nodes types_here e ++ flat_map (λ x. x.types) (parameters_in e)
+
+-- the types of the THE nodes that stand round a form
+abbrev pub types_round : Core → List Spec
+types_round (The p t e) = t ∷ types_round e
+types_round _ = []
+
+abbrev pub values_of : Bindings → List (Parameter × Core)
+values_of no_binding = []
+values_of (binding x e bs) = (x, e) ∷ values_of bs
+
+-- the variables that a node binds with the forms that give their values
+abbrev pub values_bound : Core → List (Parameter × Core)
+values_bound (Let p bs e) = values_of bs
+values_bound _ = []
+
+-- the number of the variable that a node sets, with the form that gives its value
+abbrev pub value_set : Core → List (ℕ × Core)
+value_set (SetLocal p x e) = (x, e) ∷ []
+value_set _ = []
+
+-- Each value that a variable takes is tested for each of the types that are declared of it. A function tests its arguments
+-- itself; else THE nodes stand round the form that gives the value.
+pub record DeclaredAreTested (e : Core) : Type 0 where
+  pub bound : (x : Parameter) (value : Core) → Contains (at_nodes values_bound e) (x, value) → All (Contains (types_round value)) x.types
+  pub set : (x : Parameter) (n : ℕ) (value : Core) → Contains (parameters_in e) x → Contains (parameter_number x) n →
+      Contains (at_nodes value_set e) (n, value) → All (Contains (types_round value)) x.types
+
+-- ---- the functions of symbols
+
+-- whether a form gives a function: that of a LAMBDA or a local one, also where the local functions are bound round it
+abbrev pub gives_function : Core → Bool
+gives_function (Function p l) = true
+gives_function (FunLocal p f) = true
+gives_function (Labels p ds e) = gives_function e
+gives_function _ = false
+
+-- the form whose value a node gives to a symbol as its function
+abbrev pub function_set : Core → List Core
+function_set (SetFun p s e) = e ∷ []
+function_set _ = []
+
+-- ---- definitions of global functions
+
+-- a call, with one argument, of a function that takes none
+abbrev pub is_refused_call : Core → Bool
+is_refused_call (Funcall p (Function q (lambda k [] no_optional None e)) (core x no_core)) = true
+is_refused_call _ = false
+
+-- A function's body is the block of its name, within the bindings that &AUX and &KEY make and the test of the keys, which
+-- refuses other keys by such a call.
+abbrev pub is_body_of : (name : SymId) → Core → Bool
+is_body_of name (Block p b n e) = number_of n == number_of name
+is_body_of name (Let p bs e) = is_body_of name e
+is_body_of name (If p a b c) = is_body_of name b && is_refused_call c
+is_body_of name _ = false
+
+abbrev pub body_of : Lambda → Core
+body_of (lambda k xs os r e) = e
+
+-- the places of all nodes and local functions of a form
+abbrev pub places_in : Core → List Place
+places_in e = gather (λ x. place_of x ∷ []) (λ f. f.place ∷ []) e
+
+-- the definition of a global function: it is given to its name, which is the value
+abbrev pub definition : (place : Place) → (name : SymId) → (function : ℕ) → Lambda → Core
+definition p n k l = Progn p (core (SetFun p n (Labels p (define p k n l no_definition) (FunLocal p k))) (core (Quote p (Sym n)) no_core))
+
+-- a form of a prelude is the definition of a global function, and its name is the place of all that stands in it
+pub record IsDefinition (t : Top) : Type 0 where
   pub name : SymId
   pub function : ℕ
   pub does : Lambda
-  pub is : e ≡ Progn place (core (SetFun place name (Labels place (define place function name does no_definition) (FunLocal place function))) (core (Quote place (Sym name)) no_core))
+  pub body : is_body_of name (body_of does) ≡ true
+  pub is : t.core ≡ definition (places.Prelude name) name function does
+  pub place : t.place ≡ places.Prelude name
+  pub everywhere : All (λ p. p ≡ places.Prelude name) (places_in t.core)
 
 -- ---- programs
 
+-- The lexical variables, local functions, blocks and tags of a form count from 1, its functions from 0. Whether a type is
+-- lawful for a table depends on the number of its symbols alone.
 pub record TopIsLawful (p : Program) (t : Top) : Type 0 where
   pub symbols : All (λ s. number_of s < length p.symbols) (top_symbols t)
+  pub types : (table : Table) → length table.symbols ≡ length p.symbols → All (IsLawfulType table) (types_in t.core)
   pub data_there : (v w : Val) → Contains (quoted t.core) v → Reaches p v w → IsDatum p w
-  pub numbered : numbers_from 0 (functions_in t.core)
+  pub tags : All (λ v. is_tag v ≡ true) (tags_in t.core)
+  pub binders : CountFrom 1 (bound_in t.core)
+  pub functions : CountFrom 0 (map function_number (functions_in t.core))
+  pub tested : DeclaredAreTested t.core
+  pub functions_set : All (λ e. gives_function e ≡ true) (at_nodes function_set t.core)
 
 abbrev pub TopsAreLawful : Program → List Top → Type 0
 TopsAreLawful p [] = Unit {0}
@@ -209,7 +328,15 @@ TopsAreLawful p (t ∷ ts) = TopIsLawful p t × TopsAreLawful p ts
 
 abbrev pub AreDefinitions : List Top → Type 0
 AreDefinitions [] = Unit {0}
-AreDefinitions (t ∷ ts) = IsDefinition t.core × AreDefinitions ts
+AreDefinitions (t ∷ ts) = IsDefinition t × AreDefinitions ts
+
+-- the symbols to which these forms give a function
+abbrev pub names_given : List Top → List SymId
+names_given ts = flat_map (λ t. function_given t.core) ts
+
+-- the symbols of the base names come first, in their order
+abbrev pub BeginWithNames : List Symbol → Type 0
+BeginWithNames symbols = (others : List Symbol) × (symbols ≡ map symbol_of table.base_symbols ++ others)
 
 pub record IsLawful (p : Program) : Type 0 where
   pub prelude_built : TopsAreBuilt p.prelude
@@ -217,3 +344,6 @@ pub record IsLawful (p : Program) : Type 0 where
   pub prelude_lawful : TopsAreLawful p p.prelude
   pub forms_lawful : TopsAreLawful p p.forms
   pub prelude_defines : AreDefinitions p.prelude
+  -- no function of the prelude is defined twice
+  pub prelude_once : AllPairs (λ x y. x ≢ y) (names_given p.prelude)
+  pub begins : BeginWithNames p.symbols

@@ -13,6 +13,14 @@ pub mod Eval
 pub mod Seen
 pub mod Everything
 pub mod Growth
+pub mod AsLayer
 pub mod Laws
 pub mod Checked
 pub mod Lawful
+pub mod ListReading
+pub mod Checking
+pub mod Counting
+pub mod TextNames
+pub mod TextPage
+pub mod Text
+pub mod TextParts

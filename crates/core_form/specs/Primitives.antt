@@ -1,5 +1,6 @@
 -- What the primitives do: arguments, results and errors (ANSI Common Lisp, chapters 10 to 15 and 21; names with % are this project's own).
-use Rattle.std.specs.Prelude.{ℕ, zero, suc, ◌+◌, ◌-◌, ◌*◌, ◌/◌, ◌^◌, ℤ, pos, negsuc, ◌+ℤ◌, ◌-ℤ◌, ◌*ℤ◌, Bool, true, false, not, ◌&&◌, ◌||◌, if◌then◌else◌, nat_lt, nat_le, ◌==◌, int_le, int_lt, int_div, int_rem, List, [], ◌∷◌, ◌++◌, length, map, replicate, slice_get, slice_set, codes, Option, Some, None}
+use Rattle.std.specs.Prelude.{ℕ, zero, suc, ◌+◌, ◌-◌, ◌/◌, ◌^◌, ℤ, pos, negsuc, ◌+ℤ◌, ◌-ℤ◌, ◌*ℤ◌, Bool, true, false, not, ◌&&◌, if◌then◌else◌, nat_lt, nat_le, ◌==◌, int_le, int_lt, int_div, int_rem, List, [], ◌∷◌, ◌++◌, length, map, replicate, slice_get, slice_set, take, Option, Some, None}
+use Rattle.std.specs.Option.{option_map}
 use Rattle.std.specs.Int.{w64, int_bit_and, int_bit_or, int_bit_xor, int_shr}
 use Rattle.lisp_base.specs.declared.values.SymId.{SymId}
 use Rattle.lisp_base.specs.declared.values.SymKind.{SymKind}
@@ -7,160 +8,37 @@ use Rattle.lisp_base.specs.declared.values.SymKind.TheVariants as symbol_kinds
 use Rattle.lisp_base.specs.declared.values.Val.{Val}
 use Rattle.lisp_base.specs.declared.values.Val.TheVariants.{Int, Char, Sym, Ref}
 use Rattle.lisp_base.specs.declared.values.Place.{Place}
-use Rattle.lisp_base.specs.declared.types.Bound.TheVariants as bound
-use Rattle.lisp_base.specs.declared.types.TypeName.TheVariants as name
+use Rattle.lisp_base.specs.declared.rows.PrimType.TheVariants as types
 use Rattle.lisp_base.specs.declared.primitives.Primitive.{Primitive}
 use Rattle.lisp_base.specs.declared.primitives.Primitive.TheVariants as op
 use Rattle.lisp_base.specs.Sort.{nil, truth, symbol, number_of, index_of, same, same_integer}
-use Rattle.lisp_base.specs.Spec.{Spec, Named, Integer, Member, And, Or, Not, no_spec, spec}
+use Rattle.lisp_base.specs.PrimNames.{prim_name}
+use Rattle.lisp_base.specs.Rows.{prim_row, prim_type_spec}
+use Rattle.lisp_base.specs.Shown.{most_elements}
+use Rattle.lisp_base.specs.Spec.{Spec}
 use Rattle.core_form.specs.Arithmetic.{arithmetic}
 use Rattle.core_form.specs.Facts.{lookup}
-use Rattle.core_form.specs.State.{Symbol, Object, Pair, Vector, Str, Fun, Cell, Fault, TypeError, Index, Overflow, ZeroDivide, Unbound, Undefined, Arguments, EndOfFile, Simple, State}
+use Rattle.core_form.specs.State.{Symbol, Object, Pair, Vector, Str, Fault, TypeError, Index, Overflow, ZeroDivide, Unbound, Undefined, Arguments, EndOfFile, Simple, State}
 use Rattle.core_form.specs.Effect.{Effect, ◌>>=◌, ◌>>◌, pure, change, read, allot, box_all, walk_over, add, put, write}
-use Rattle.core_form.specs.Force.{Vals, Force, is_true, symbol_named, kind_of_symbol, make_list, raise, object_at, expect, one}
+use Rattle.core_form.specs.Force.{Vals, Force, is_true, symbol_named, make_list, raise, object_at, expect, one}
 
--- ---- names and rows
-
-abbrev pub operation_text : Primitive → List ℕ
-operation_text op.Cons = codes "CONS"
-operation_text op.List = codes "LIST"
-operation_text op.Car = codes "CAR"
-operation_text op.Cdr = codes "CDR"
-operation_text op.Rplaca = codes "RPLACA"
-operation_text op.Rplacd = codes "RPLACD"
-operation_text op.MakeVector = codes "%MAKE-VECTOR"
-operation_text op.MakeString = codes "%MAKE-STRING"
-operation_text op.Svref = codes "SVREF"
-operation_text op.Schar = codes "SCHAR"
-operation_text op.SetSvref = codes "%SVSET"
-operation_text op.SetSchar = codes "%SCHARSET"
-operation_text op.VectorLength = codes "%VECTOR-LENGTH"
-operation_text op.StringLength = codes "%STRING-LENGTH"
-operation_text op.Eq = codes "EQ"
-operation_text op.Add = codes "+"
-operation_text op.Subtract = codes "-"
-operation_text op.Multiply = codes "*"
-operation_text op.Truncate = codes "TRUNCATE"
-operation_text op.Floor = codes "FLOOR"
-operation_text op.Rem = codes "REM"
-operation_text op.Mod = codes "MOD"
-operation_text op.Equal = codes "="
-operation_text op.NotEqual = codes "/="
-operation_text op.Less = codes "<"
-operation_text op.Greater = codes ">"
-operation_text op.LessOrEqual = codes "<="
-operation_text op.GreaterOrEqual = codes ">="
-operation_text op.LogAnd = codes "LOGAND"
-operation_text op.LogIor = codes "LOGIOR"
-operation_text op.LogXor = codes "LOGXOR"
-operation_text op.LogNot = codes "LOGNOT"
-operation_text op.Ash = codes "ASH"
-operation_text op.CharCode = codes "CHAR-CODE"
-operation_text op.CodeChar = codes "CODE-CHAR"
-operation_text op.CharEqual = codes "CHAR="
-operation_text op.CharLess = codes "CHAR<"
-operation_text op.ReadChar = codes "READ-CHAR"
-operation_text op.WriteChar = codes "WRITE-CHAR"
-operation_text op.SymbolName = codes "SYMBOL-NAME"
-operation_text op.SymbolValue = codes "SYMBOL-VALUE"
-operation_text op.SymbolFunction = codes "SYMBOL-FUNCTION"
-operation_text op.SetValue = codes "SET"
-operation_text op.Boundp = codes "BOUNDP"
-operation_text op.Fboundp = codes "FBOUNDP"
-operation_text op.Uninternedp = codes "%UNINTERNEDP"
-operation_text op.Error = codes "%ERROR"
-operation_text op.ValuesList = codes "VALUES-LIST"
+-- ---- rows
 
 -- the types of the arguments of a primitive, and of any further ones
 pub record Row : Type 0 where
   pub types : List Spec
   pub rest : Option Spec
 
-abbrev pub takes : List Spec → Row
-takes types = record { types = types; rest = None }
-
-abbrev pub anything : Spec
-anything = Named name.T
-
-abbrev pub integer : Spec
-integer = Named name.Integer
-
-abbrev pub character : Spec
-character = Named name.Character
-
-abbrev pub a_list : Spec
-a_list = Named name.List
-
-abbrev pub a_symbol : Spec
-a_symbol = Named name.Symbol
-
-abbrev pub two : Spec → Row
-two t = takes (t ∷ t ∷ [])
-
--- the greatest length of a vector or string, and the greatest code point
-unfoldable pub greatest_length : ℕ
-greatest_length = 16777215
-
-unfoldable pub greatest_code : ℕ
-greatest_code = 1114111
-
-abbrev pub up_to : ℕ → Spec
-up_to n = Integer (bound.At (pos 0)) (bound.At (pos n))
-
--- a symbol whose value may be set
-abbrev pub settable : Spec
-settable =
-    And (spec a_symbol (spec (Not (Or (spec (Member (nil ∷ truth ∷ [])) (spec (Named name.Keyword) no_spec)))) no_spec))
-
+-- as the table of primitives has them
 abbrev pub row_of : Primitive → Row
-row_of op.Cons = two anything
-row_of op.List = record { types = []; rest = Some anything }
-row_of op.Car = takes (a_list ∷ [])
-row_of op.Cdr = takes (a_list ∷ [])
-row_of op.Rplaca = takes (Named name.Cons ∷ anything ∷ [])
-row_of op.Rplacd = takes (Named name.Cons ∷ anything ∷ [])
-row_of op.MakeVector = two anything
-row_of op.MakeString = takes (anything ∷ character ∷ [])
-row_of op.Svref = takes (Named name.SimpleVector ∷ anything ∷ [])
-row_of op.Schar = takes (Named name.SimpleString ∷ anything ∷ [])
-row_of op.SetSvref = takes (Named name.SimpleVector ∷ anything ∷ anything ∷ [])
-row_of op.SetSchar = takes (Named name.SimpleString ∷ anything ∷ character ∷ [])
-row_of op.VectorLength = takes (Named name.SimpleVector ∷ [])
-row_of op.StringLength = takes (Named name.SimpleString ∷ [])
-row_of op.Eq = two anything
-row_of op.Add = two integer
-row_of op.Subtract = two integer
-row_of op.Multiply = two integer
-row_of op.Truncate = two integer
-row_of op.Floor = two integer
-row_of op.Rem = two integer
-row_of op.Mod = two integer
-row_of op.Equal = two integer
-row_of op.NotEqual = two integer
-row_of op.Less = two integer
-row_of op.Greater = two integer
-row_of op.LessOrEqual = two integer
-row_of op.GreaterOrEqual = two integer
-row_of op.LogAnd = two integer
-row_of op.LogIor = two integer
-row_of op.LogXor = two integer
-row_of op.LogNot = takes (integer ∷ [])
-row_of op.Ash = two integer
-row_of op.CharCode = takes (character ∷ [])
-row_of op.CodeChar = takes (up_to greatest_code ∷ [])
-row_of op.CharEqual = two character
-row_of op.CharLess = two character
-row_of op.ReadChar = takes (Member (nil ∷ truth ∷ []) ∷ anything ∷ anything ∷ [])
-row_of op.WriteChar = takes (character ∷ [])
-row_of op.SymbolName = takes (a_symbol ∷ [])
-row_of op.SymbolValue = takes (a_symbol ∷ [])
-row_of op.SymbolFunction = takes (a_symbol ∷ [])
-row_of op.SetValue = takes (settable ∷ anything ∷ [])
-row_of op.Boundp = takes (a_symbol ∷ [])
-row_of op.Fboundp = takes (a_symbol ∷ [])
-row_of op.Uninternedp = takes (a_symbol ∷ [])
-row_of op.Error = takes (anything ∷ a_list ∷ [])
-row_of op.ValuesList = takes (a_list ∷ [])
+row_of q = record {
+  types = map prim_type_spec (take (prim_row q).count (prim_row q).args);
+  rest = option_map prim_type_spec (prim_row q).rest;
+}
+
+-- the greatest length of a vector or string
+abbrev pub greatest_length : ℕ
+greatest_length = most_elements
 
 unfoldable pub check_rest : Force → Place → Option Spec → Vals → Effect (Unit {0})
 check_rest f p r [] = pure tt
@@ -207,7 +85,7 @@ abbrev pub in_range : ℤ → Bool
 in_range z = int_le (negsuc (2 ^ 63 - 1)) z && int_lt z (pos (2 ^ 63))
 
 abbrev pub operation_name : Force → Primitive → SymId
-operation_name f q = symbol_named (operation_text q) f.symbols
+operation_name f q = symbol_named (prim_name q) f.symbols
 
 -- an integer of the language, or INTEGER-OVERFLOW of the operation on its operands
 unfoldable pub fitting : Force → Place → Primitive → Vals → ℤ → Effect ℤ
@@ -285,8 +163,8 @@ valid_index f p n v = raise f (Index v n) p
 -- a length must be one that a vector or string may have
 unfoldable pub valid_length : Force → Place → Val → Effect ℕ
 valid_length f p (Int (pos n)) =
-    if nat_le n greatest_length then pure n else raise f (TypeError (Int (pos n)) (up_to greatest_length)) p
-valid_length f p v = raise f (TypeError v (up_to greatest_length)) p
+    if nat_le n greatest_length then pure n else raise f (TypeError (Int (pos n)) (prim_type_spec types.Length)) p
+valid_length f p v = raise f (TypeError v (prim_type_spec types.Length)) p
 
 abbrev pub vector_words : ℕ → ℕ
 vector_words n = 1 + n
@@ -336,7 +214,7 @@ set_cdr vs o = box_all (argument 1 vs ∷ []) >> put_at (argument 0 vs) (Pair (c
 unfoldable pub list_end : Force → Place → (ℕ → Fault) → Vals → Val → Bool → Option Object → Effect Vals
 list_end f p many done v true o = pure done
 list_end f p many done v false o =
-    if is_pair o then walk_over 1 >> raise f (many (length done + 1)) p else raise f (TypeError v a_list) p
+    if is_pair o then walk_over 1 >> raise f (many (length done + 1)) p else raise f (TypeError v (prim_type_spec types.List)) p
 
 -- at most so many elements, after those that are done
 unfoldable pub elements : ℕ → Force → Place → (ℕ → Fault) → Vals → Val → Effect Vals

@@ -1,7 +1,6 @@
 -- The plain tree that a Core is. (This project's own.)
-use Rattle.std.specs.Prelude.{List, [], ◌∷◌, map, Option, option_map}
+use Rattle.std.specs.Prelude.{List, [], ◌∷◌, map, option_map}
 use Rattle.lisp_base.specs.declared.values.Place.{Place}
-use Rattle.lisp_base.specs.declared.types.TypeSpec.{TypeSpec}
 use Rattle.lisp_base.specs.Reading.{spec_of}
 use Rattle.core_form.specs.declared.tree.Parameter.{Parameter as Parameter'}
 use Rattle.core_form.specs.declared.tree.Core.{Core as Core'}

@@ -1,11 +1,10 @@
 -- Stretches of a run that may take fuel, and what stands round one and sees it end. (This project's own.)
-use Rattle.std.specs.Prelude.{ℕ, zero, suc, ◌-◌, Bool, true, false, if◌then◌else◌, ◌==◌, List, [], length, Option}
+use Rattle.std.specs.Prelude.{ℕ, zero, suc, ◌-◌, Bool, true, false, ◌==◌, List, [], length, Option, Some, None}
 use Rattle.lisp_base.specs.declared.values.SymId.{SymId}
 use Rattle.lisp_base.specs.declared.values.Val.{Val}
 use Rattle.lisp_base.specs.declared.values.Place.{Place}
 use Rattle.core_form.specs.State.{Fault, State, Exit, first_of_values}
 use Rattle.core_form.specs.Effect.{Ended, Gave, Left, Failed, Effect, change, leave, spend, box_all}
-use Rattle.core_form.specs.Effect as effects
 use Rattle.core_form.specs.Force.{Vals}
 use Rattle.core_form.specs.Primitives.{give}
 use Rattle.core_form.specs.Step.{Around, deliver}
@@ -89,16 +88,17 @@ block_round n r = λ s. arrive n false (r s)
 unfoldable pub catch_round : (entry : ℕ) → Run Vals → Run Vals
 catch_round n r = λ s. arrive n true (r s)
 
--- an exit to this tagbody goes on at its tag
-unfoldable pub jump : (here : Bool) → Run Vals → Exit → Run Vals
-jump true r e = r
-jump false r e = perform (leave e)
+-- an exit to this tagbody goes on at its tag; without one, which no checked tree has, it ends the tagbody
+unfoldable pub jump : (here : Bool) → (tag : Option ℕ) → (ℕ → Run Vals) → Exit → Run Vals
+jump true (Some t) r e = r t
+jump true None r e = pure []
+jump false tag r e = perform (leave e)
 
 -- at most so many jumps to the tags of one tagbody; each takes fuel before
 abbrev pub jumps : ℕ → (entry : ℕ) → (ℕ → Run Vals) → Outcome Vals → Outcome Vals
 jumps n m from (Gives vs s) = Gives vs s
-jumps zero m from (Leaves e s) = jump (e.entry == m) stop e s
-jumps (suc n) m from (Leaves e s) = jump (e.entry == m) (λ t. jumps n m from (from e.tag t)) e s
+jumps zero m from (Leaves e s) = jump (e.entry == m) e.tag (λ t. stop) e s
+jumps (suc n) m from (Leaves e s) = jump (e.entry == m) e.tag (λ t u. jumps n m from (from t u)) e s
 jumps n m from (Fails x p s) = Fails x p s
 jumps n m from (NotYet s) = NotYet s
 

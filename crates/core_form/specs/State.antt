@@ -1,10 +1,9 @@
 -- The state of a run, what is counted, and how a stretch of a run ends. (This project's own; errors after ANSI Common Lisp, chapter 9.)
-use Rattle.std.specs.Prelude.{ℕ, zero, suc, ◌+◌, ◌-◌, ◌*◌, ◌^◌, max, ℤ, pos, negsuc, Bool, ◌&&◌, if◌then◌else◌, int_le, int_lt, List, [], ◌∷◌, Option, Some, None}
+use Rattle.std.specs.Prelude.{ℕ, ◌+◌, ◌-◌, ◌*◌, ◌^◌, ℤ, pos, negsuc, Bool, ◌&&◌, if◌then◌else◌, int_le, int_lt, List, [], ◌∷◌, Option, Some, None}
 use Rattle.lisp_base.specs.declared.values.SymId.{SymId}
 use Rattle.lisp_base.specs.declared.values.SymKind.{SymKind}
 use Rattle.lisp_base.specs.declared.values.Val.{Val}
 use Rattle.lisp_base.specs.declared.values.Val.TheVariants.{Int, Char, Sym, Ref}
-use Rattle.lisp_base.specs.declared.values.Place.{Place}
 use Rattle.lisp_base.specs.Spec.{Spec}
 use Rattle.lisp_base.specs.Sort.{ObjectKind, ConsObject, VectorObject, StringObject, FunctionObject, CellObject, nil}
 
@@ -104,10 +103,10 @@ pub record State : Type 0 where
   pub output : List ℕ
   pub counts : Counts
 
--- an exit on its way to one entry of a block, tagbody or catch: to a tag of it, with values
+-- an exit on its way to one entry of a block, tagbody or catch, with values; that of a GO is to a tag
 pub record Exit : Type 0 where
   pub entry : ℕ
-  pub tag : ℕ
+  pub tag : Option ℕ
   pub values : List Val
 
 -- ---- values

@@ -1,8 +1,8 @@
 -- The surroundings of a node, and the effects that nodes have: on variables, functions and exits. (This project's own.)
-use Rattle.std.specs.Prelude.{ℕ, zero, suc, ◌+◌, ◌-◌, ◌*◌, pos, negsuc, Bool, true, false, not, ◌&&◌, ◌||◌, if◌then◌else◌, nat_lt, List, [], ◌∷◌, ◌++◌, length, map, take, drop, slice_get, codes, Option, Some, None}
+use Rattle.std.specs.Prelude.{ℕ, ◌+◌, ◌-◌, ◌*◌, pos, Bool, true, false, not, ◌&&◌, ◌||◌, if◌then◌else◌, nat_lt, List, [], ◌∷◌, ◌++◌, length, map, take, codes, Option, Some, None}
 use Rattle.lisp_base.specs.declared.values.SymId.{SymId}
 use Rattle.lisp_base.specs.declared.values.Val.{Val}
-use Rattle.lisp_base.specs.declared.values.Val.TheVariants.{Int, Char, Sym, Ref}
+use Rattle.lisp_base.specs.declared.values.Val.TheVariants.{Int, Sym}
 use Rattle.lisp_base.specs.declared.values.Place.{Place}
 use Rattle.lisp_base.specs.declared.types.TypeName.TheVariants as name
 use Rattle.lisp_base.specs.Sort.{nil, number_of, same}
@@ -11,10 +11,10 @@ use Rattle.core_form.specs.declared.tree.Variable.{Variable}
 use Rattle.core_form.specs.declared.tree.Variable.TheVariants.{Lexical, Special}
 use Rattle.core_form.specs.Tree.{Parameter, Lambda, lambda, Optionals, no_optional, optional}
 use Rattle.core_form.specs.Facts.{FunctionText, TagText, Facts, Code, has_number, lookup, without, closed_of, parameters_of}
-use Rattle.core_form.specs.State.{Object, Fun, Cell, Fault, TypeError, Undefined, Arguments, Control, State, Exit, all_big}
-use Rattle.core_form.specs.Effect.{Effect, ◌>>=◌, ◌>>◌, pure, change, read, leave, spend, allot, boxes_more, deliver_more, look_at, box_all, add, put, bind_to, new_entry}
-use Rattle.core_form.specs.Force.{Vals, Force, Catch, in_force, deeper, keeping, symbol_named, make_list, raise, object_at, expect, one}
-use Rattle.core_form.specs.Primitives.{or_nil, put_at, elements, most_arguments, function_in, give, defined_function}
+use Rattle.core_form.specs.State.{Object, Fun, Cell, Fault, Undefined, Arguments, Control, State, Exit, all_big}
+use Rattle.core_form.specs.Effect.{Effect, ◌>>=◌, ◌>>◌, pure, change, read, leave, allot, boxes_more, deliver_more, look_at, box_all, add, bind_to, new_entry}
+use Rattle.core_form.specs.Force.{Vals, Force, Catch, in_force, deeper, symbol_named, raise, object_at, expect, one}
+use Rattle.core_form.specs.Primitives.{or_nil, put_at, elements, most_arguments, function_in}
 
 -- What the text fixes at a node: the facts of the top-level form; whether the node is in tail position, and at a word position.
 pub record Text : Type 0 where
@@ -213,12 +213,12 @@ exit_to f p name e = if in_force f e.entry then box_all e.values >> leave e else
 
 unfoldable pub return_from : Facts → Force → Place → ℕ → Vals → Effect Vals
 return_from facts f p b vs =
-    read (entry_of facts b) >>= (λ n. exit_to f p (or_nil (lookup b facts.blocks)) (record { entry = n; tag = 0; values = vs }))
+    read (entry_of facts b) >>= (λ n. exit_to f p (or_nil (lookup b facts.blocks)) (record { entry = n; tag = None; values = vs }))
 
 unfoldable pub go_on_at : Facts → Force → Place → ℕ → Option TagText → Effect Vals
 go_on_at facts f p t None = raise f (Control nil) p
 go_on_at facts f p t (Some u) =
-    read (entry_of facts u.tagbody) >>= (λ n. exit_to f p u.name (record { entry = n; tag = t; values = [] }))
+    read (entry_of facts u.tagbody) >>= (λ n. exit_to f p u.name (record { entry = n; tag = Some t; values = [] }))
 
 unfoldable pub go_to : Facts → Force → Place → ℕ → Effect Vals
 go_to facts f p t = go_on_at facts f p t (lookup t facts.names.tags)
@@ -233,7 +233,7 @@ find_catch v (c ∷ cs) n = if same v c.tag then (n + 1, Some c) else find_catch
 
 unfoldable pub throw_to : Force → Place → Val → Vals → Option Catch → Effect Vals
 throw_to f p v vs None = raise f (Control v) p
-throw_to f p v vs (Some c) = box_all vs >> leave (record { entry = c.entry; tag = 0; values = vs })
+throw_to f p v vs (Some c) = box_all vs >> leave (record { entry = c.entry; tag = None; values = vs })
 
 unfoldable pub throw : Force → Place → Val → Vals → Effect Vals
 throw f p v vs = look_at ((find_catch v f.catches 0).0) >> throw_to f p v vs ((find_catch v f.catches 0).1)

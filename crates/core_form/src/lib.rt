@@ -2,17 +2,33 @@
 #![tactic(auto)]
 
 mod build;
+mod checking;
+mod counting;
 mod faults;
 mod laws;
+mod node_laws;
 mod programs;
+mod scopes;
 #[cfg(test)]
 mod tests;
+mod text;
+mod text_heads;
+mod text_page;
+#[cfg(test)]
+mod text_tests;
+mod text_variables;
+mod text_words;
 mod tree;
 
 pub use build::{call, checked, choice, quote, sequence};
+pub use checking::check_core;
 pub use faults::Fault;
-pub use laws::{more_fuel_keeps, never_astray, reads_lists};
+pub use laws::{
+    forms_are_layers, fuel_taken, more_fuel_keeps, never_astray, programs_are_layers, reads_lists,
+};
+pub use node_laws::reads_nodes;
 pub use programs::{Program, Tops};
+pub use text::core_text;
 pub use tree::{
     Binding, Core, Definition, Form, Item, Lambda, Optional, Parameter, TopForm, Variable,
 };

@@ -12,8 +12,10 @@ pub type Tops = Vec<TopForm>;
 /// A program: the functions of the prelude that it uses, its top-level forms, the objects that
 /// its constants reach, and its symbols.
 ///
-/// Its trees are checked, their symbols are in its table and their data in its heap, and each form
-/// of the prelude defines a function.
+/// Its trees are checked: each number used is bound round it, binders are numbered from 1 in one
+/// count, and declared types are tested. Their symbols are in its table, which begins with the base
+/// names, their types are lawful for it, and their data are in its heap. Symbols are given functions
+/// alone. Each form of the prelude defines a function, none of them twice.
 #[derive(Drop)]
 pub struct Program {
     prelude: Tops,

@@ -7,5 +7,7 @@ pub mod Sizes
 pub mod Passing
 pub mod Names
 pub mod Whole
+pub mod PlainTrees
+pub mod LawfulPrograms
 pub mod FileForms
 pub mod Programs

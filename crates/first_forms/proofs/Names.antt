@@ -3,14 +3,17 @@ use Rattle.std.proofs.Common.{◌≡◌, refl, sym, ap, subst, ◌∙◌, ℕ, z
 use Rattle.std.specs.Prelude.{slice_get, if◌then◌else◌, codes, encode_utf8_all, nat_lt}
 use Rattle.std.specs.Str.{chars}
 use Rattle.std.specs.List.{position}
-use Rattle.std.proofs.lemmas.List.{append_assoc}
+use Rattle.std.proofs.lemmas.List.{append_assoc, map-append}
 use Rattle.lisp_base.specs.declared.values.Val.{Val}
 use Rattle.lisp_base.specs.declared.values.SymKind.{SymKind}
 use Rattle.lisp_base.specs.declared.values.SymKind.TheVariants as kinds
 use Rattle.lisp_base.specs.declared.values.SymId.{SymId}
 use Rattle.lisp_base.specs.Sort.{nil, symbol as symbol_id}
-use Rattle.lisp_base.specs.Tables.{Symbol as Entry, Object, Table, make_table, make_symbol, added, found_or_added, interned, is_symbol, first_table, most_symbols}
+use Rattle.lisp_base.specs.BaseNames.{base_names}
+use Rattle.lisp_base.specs.Tables.{Symbol as Entry, Object, Table, make_table, make_symbol, added, found_or_added, interned, is_symbol, base_symbols, first_table, most_symbols}
 use Rattle.core_form.specs.State.{Symbol}
+use Rattle.core_form.specs.Tree.{Top}
+use Rattle.core_form.specs.Lawful.{BeginWithNames}
 use Rattle.lisp_reader.specs.declared.forms.TopRead.{TopRead}
 use Rattle.lisp_reader.specs.Tokens.{Atom, integer, character, string, symbol, keyword}
 use Rattle.lisp_reader.specs.Trees.{Tree, Trees, leaf, prefixed, list, dotted, vector_of, none as no_tree, also}
@@ -104,9 +107,11 @@ plain : List ℕ → Symbol
 plain name = record { name = name; kind = kinds.Plain }
 
 first_named : (rest : List Entry) → slice_get (map symbol_of (first_table.symbols ++ rest)) 0 ≡ Some (record { name = chars (codes "NIL"); kind = kinds.Plain })
+unfolding base_names
 first_named rest = refl
 
 second_named : (rest : List Entry) → slice_get (map symbol_of (first_table.symbols ++ rest)) 1 ≡ Some (record { name = chars (codes "T"); kind = kinds.Plain })
+unfolding base_names
 second_named rest = refl
 
 begins : (rest : List Entry) → BeginsWithNames (map symbol_of (first_table.symbols ++ rest))
@@ -115,8 +120,18 @@ begins rest = record {
   truth = second_named rest ∙ ap (λ (n : List ℕ). Some (record { name = n; kind = kinds.Plain })) truth_named;
 }
 
+-- ---- all base names
+
+-- the table of a program goes on where that of the base names ends
+goes_on : (bytes : List ℕ) (forms : List Top) (symbols : List Symbol) (p : IsProgram bytes forms symbols) → More first_table.symbols p.answer.1.symbols.symbols
+goes_on bytes forms symbols p = let g = p.reads.grammar in forms_grow g.0 first_stock p.answer g.3
+
+pub programs_begin : (bytes : List ℕ) (forms : List Top) (symbols : List Symbol) → IsProgram bytes forms symbols → BeginWithNames symbols
+programs_begin bytes forms symbols p =
+    let more = goes_on bytes forms symbols p in
+    (map symbol_of more.0, p.symbols_are ∙ ap (λ (x : List Entry). map symbol_of x) more.1 ∙ map-append symbol_of base_symbols more.0)
+
 pub programs_have_names : ProgramsHaveNames
 programs_have_names bytes forms symbols p =
-    let g = p.reads.grammar in
-    let more = forms_grow g.0 first_stock p.answer g.3 in
+    let more = goes_on bytes forms symbols p in
     subst (λ (x : List Symbol). BeginsWithNames x) (sym (p.symbols_are ∙ ap (λ (x : List Entry). map symbol_of x) more.1)) (begins more.0)

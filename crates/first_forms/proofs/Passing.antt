@@ -6,6 +6,7 @@ use Rattle.lisp_base.specs.declared.values.Place.{Place}
 use Rattle.lisp_base.specs.declared.values.Place.TheVariants.{File, Prelude}
 use Rattle.lisp_base.specs.Tables.{Symbol, Object}
 use Rattle.lisp_base.specs.Sort.{nil}
+use Rattle.core_form.specs.State.{Symbol as CoreSymbol}
 use Rattle.core_form.specs.Tree.{Core, Quote, If, Progn, Cores, no_core, core, Top}
 use Rattle.lisp_reader.specs.declared.forms.TopRead.{TopRead}
 use Rattle.first_forms.specs.declared.operator.Link.{Link}
@@ -13,7 +14,7 @@ use Rattle.first_forms.specs.declared.operator.Operator.{Operator}
 use Rattle.first_forms.specs.declared.operator.Operator.TheVariants as operator
 use Rattle.first_forms.specs.Forms.{link_at, is_nil, elements, operator_at, is_character}
 use Rattle.first_forms.specs.Language.{◌>>=◌, sequence_of, reading_of, writing_of, typed_of, nodes, choice, reading, writing, typed, operation, call, node, constant, is_built_constant, list_place, place_in_file, parts_of, is_progn, progn_at, one_form, all_forms, top_forms, file_forms, most_bytes, most_levels, place_at, tops}
-use Rattle.first_forms.specs.Laws.{is_file, all_pass, IsHandedOn, tops_pass, ProgramsPass}
+use Rattle.first_forms.specs.Laws.{is_file, all_pass, IsHandedOn, IsHandedOnInFiles, tops_pass, ProgramsPass}
 use Rattle.first_forms.specs.Program.{IsProgram}
 use Rattle.first_forms.proofs.Bounded.{some_inj, bound_some}
 use Rattle.first_forms.proofs.Nodes.{node_atom, node_deep, node_list, forms_flat, forms_atom, split, by_parts, picked, by_link}
@@ -28,14 +29,14 @@ filed p None h = h
 filed p (Some (File offset tail)) h = refl
 filed p (Some (Prelude name)) h = h
 
-module _ (test : Core → Bool) (on : IsHandedOn test) (symbols : List Symbol) (objects : List Object) where
+module _ (test : Core → Bool) (on : IsHandedOnInFiles test) (symbols : List Symbol) (objects : List Object) where
   quoted : (p : Place) (v : Val) (b : Bool) (c : Core) → (b ≡ true → test (Quote p v) ≡ true) → (if b then Some (Quote p v) else None) ≡ Some c → test c ≡ true
   quoted p v true c h e = subst (λ (x : Core). test x ≡ true) (some_inj e) (h refl)
   quoted p v false c h e = absurd (cc)
 
-  constant_passes : (p : Place) (v : Val) (c : Core) → constant p v ≡ Some c → test c ≡ true
+  constant_passes : (p : Place) (v : Val) (c : Core) → is_file p ≡ true → constant p v ≡ Some c → test c ≡ true
   unfolding constant
-  constant_passes p v c e = quoted p v (is_built_constant v) c (on.quote p v) e
+  constant_passes p v c f e = quoted p v (is_built_constant v) c (on.quote p v f) e
 
   abbrev InnerPasses : ℕ → Type 0
   InnerPasses n = (p : Place) (v : Val) (c : Core) → is_file p ≡ true → node symbols objects n p v ≡ Some c → test c ≡ true
@@ -54,7 +55,7 @@ module _ (test : Core → Bool) (on : IsHandedOn test) (symbols : List Symbol) (
   alone false h = h
 
   sequence_passes : (p : Place) → is_file p ≡ true → (es : Cores) → all_pass test es ≡ true → test (sequence_of p es) ≡ true
-  sequence_passes p f no_core h = on.quote p nil refl
+  sequence_passes p f no_core h = on.quote p nil f refl
   sequence_passes p f (core e no_core) h = alone (test e) h
   sequence_passes p f (core e (core g es)) h = on.sequence p (core e (core g es)) f h
 
@@ -65,7 +66,7 @@ module _ (test : Core → Bool) (on : IsHandedOn test) (symbols : List Symbol) (
       let inner = node symbols objects n in
       let a = bound_some (inner p x) (λ a. inner p y >>= λ b. Some (If p a b (Quote p nil))) c e in
       let b = bound_some (inner p y) (λ b. Some (If p a.0 b (Quote p nil))) c a.2 in
-      subst (λ (z : Core). test z ≡ true) (some_inj b.2) (on.choice p a.0 b.0 (Quote p nil) f (ih p x a.0 f a.1) (ih p y b.0 f b.1) (on.quote p nil refl))
+      subst (λ (z : Core). test z ≡ true) (some_inj b.2) (on.choice p a.0 b.0 (Quote p nil) f (ih p x a.0 f a.1) (ih p y b.0 f b.1) (on.quote p nil f refl))
   choice_passes n ih p f (x ∷ y ∷ z ∷ []) c e =
       let inner = node symbols objects n in
       let a = bound_some (inner p x) (λ a. inner p y >>= λ b. inner p z >>= λ d. Some (If p a b d)) c e in
@@ -126,13 +127,13 @@ module _ (test : Core → Bool) (on : IsHandedOn test) (symbols : List Symbol) (
   node_at_zero p v = refl
 
   picked_passes : (n : ℕ) → InnerPasses n → (p : Place) (v : Val) (d : Option Link) (c : Core) → is_file p ≡ true → picked symbols objects n p v d ≡ Some c → test c ≡ true
-  picked_passes n ih p v None c f e = constant_passes p v c e
+  picked_passes n ih p v None c f e = constant_passes p v c f e
   picked_passes n ih p v (Some d) c f e =
       let us = bound_some (elements objects most_bytes v) (call symbols (node symbols objects n) (list_place p d)) c e in
       call_passes n ih (list_place p d) (filed p d.place f) us.0 c us.2
 
   node_passes : (n : ℕ) → InnerPasses n
-  node_passes zero p v c f e = constant_passes p v c (sym (node_at_zero p v) ∙ e)
+  node_passes zero p v c f e = constant_passes p v c f (sym (node_at_zero p v) ∙ e)
   node_passes (suc n) p v c f e = picked_passes n (node_passes n) p v (link_at objects v) c f (sym (by_link symbols objects n p v) ∙ e)
 
   -- ---- top-level forms
@@ -205,9 +206,19 @@ module _ (test : Core → Bool) (on : IsHandedOn test) (symbols : List Symbol) (
       second true b h = h
       second false b h = absurd (cc)
 
-pub programs_pass : ProgramsPass
-programs_pass test on bytes forms symbols p =
+pub pass_in_files : (test : Core → Bool) → IsHandedOnInFiles test → (bytes : List ℕ) (forms : List Top) (symbols : List CoreSymbol) → IsProgram bytes forms symbols → tops_pass test forms ≡ true
+pass_in_files test on bytes forms symbols p =
     let entries = p.answer.1.symbols.symbols in
     let objects = p.answer.1.objects in
     subst (λ (x : List Top). tops_pass test x ≡ true) (sym p.forms_are)
     (as_tops test on entries objects p.cores (file_passes test on entries objects p.answer.0 p.cores p.given))
+
+pub programs_pass : ProgramsPass
+programs_pass test on = pass_in_files test (record {
+  quote = λ (p : Place) (v : Val) f h. on.quote p v h;
+  choice = on.choice;
+  sequence = on.sequence;
+  reading = on.reading;
+  writing = on.writing;
+  typed = on.typed;
+})

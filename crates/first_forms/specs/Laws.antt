@@ -5,7 +5,10 @@ use Rattle.lisp_base.specs.declared.values.Place.TheVariants.{File, Prelude}
 use Rattle.lisp_base.specs.declared.values.Place.{Place}
 use Rattle.core_form.specs.Tree.{Core, Quote, If, Progn, Cores, no_core, core, Top, node_count}
 use Rattle.core_form.specs.State.{Symbol}
+use Rattle.core_form.specs.State.{Object as CoreObject}
+use Rattle.core_form.specs.Eval.{Program}
 use Rattle.core_form.specs.Checked.{TopsAreBuilt}
+use Rattle.core_form.specs.Lawful.{IsLawful}
 use Rattle.lisp_reader.specs.declared.forms.TopRead.{TopRead}
 use Rattle.lisp_reader.specs.Building.{Stock}
 use Rattle.lisp_reader.specs.Answers.{Reads}
@@ -65,3 +68,21 @@ ProgramsPass =
 -- its symbols begin with NIL and T
 abbrev pub ProgramsHaveNames : Type 0
 ProgramsHaveNames = (bytes : List ℕ) (forms : List Top) (symbols : List Symbol) → IsProgram bytes forms symbols → BeginsWithNames symbols
+
+-- these forms without a prelude, with any heap: their constants are no objects
+abbrev pub program_of : List Top → List CoreObject → List Symbol → Program
+program_of forms heap symbols = record { prelude = []; forms = forms; heap = heap; symbols = symbols }
+
+-- the forms of a file are a lawful program
+abbrev pub ProgramsAreLawful : Type 0
+ProgramsAreLawful =
+    (bytes : List ℕ) (forms : List Top) (symbols : List Symbol) (heap : List CoreObject) → IsProgram bytes forms symbols → IsLawful (program_of forms heap symbols)
+
+-- the same for a test that needs constants at places of the file alone
+pub record IsHandedOnInFiles (test : Core → Bool) : Type 0 where
+  pub quote : (p : Place) (v : Val) → is_file p ≡ true → is_built_constant v ≡ true → test (Quote p v) ≡ true
+  pub choice : (p : Place) (a b c : Core) → is_file p ≡ true → test a ≡ true → test b ≡ true → test c ≡ true → test (If p a b c) ≡ true
+  pub sequence : (p : Place) (es : Cores) → is_file p ≡ true → all_pass test es ≡ true → test (Progn p es) ≡ true
+  pub reading : (p : Place) → is_file p ≡ true → test (reading_of p) ≡ true
+  pub writing : (p : Place) (e : Core) → is_file p ≡ true → test e ≡ true → test (writing_of p e) ≡ true
+  pub typed : (p : Place) (e : Core) → is_file p ≡ true → test e ≡ true → test (typed_of p e) ≡ true

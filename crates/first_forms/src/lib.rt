@@ -13,5 +13,5 @@ mod tests;
 mod tops;
 
 pub use fault::{FormFault, ProgramFault};
-pub use laws::{files_are_small, programs_are_built, programs_have_names};
+pub use laws::{files_are_small, programs_are_built, programs_are_lawful, programs_have_names};
 pub use program::read_program;

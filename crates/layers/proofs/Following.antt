@@ -1,5 +1,6 @@
 -- A layer of steps that comes to what a layer by fuel shows with each amount keeps its meaning.
-use Rattle.std.proofs.Common.{◌≡◌, ◌≢◌, ℕ, suc, ◌<◌, ◌≤◌, ◌⊎◌, inl, inr, ap, sym, subst, ◌∙◌, List, arith}
+use Rattle.std.proofs.Common.{◌≡◌, ◌≢◌, ℕ, suc, ◌<◌, ◌≤◌, ◌⊎◌, inl, inr, ap, sym, subst, ◌∙◌, arith}
+use Rattle.layers.specs.Input.{Input}
 use Rattle.std.proofs.lemmas.Bool.{cases_lt}
 use Rattle.layers.specs.Shown.{Seen, Runs, IsFull, Shows, Covers, ComesTo}
 use Rattle.layers.specs.Layer.{Layer, IsLawful, IsNeverFull}
@@ -32,7 +33,7 @@ covers_there heap stack r free = record {
   stack_full = λ h. absurd (free (inr h));
 }
 
-module _ (heap stack : ℕ) (a b : Layer) (fueled : IsByFuel a) (lawful : IsLawful b) (free : IsNeverFull b) (i : List ℕ) (k : ℕ) where
+module _ (heap stack : ℕ) (a b : Layer) (fueled : IsByFuel a) (lawful : IsLawful b) (free : IsNeverFull b) (i : Input) (k : ℕ) where
   -- b shows no more at k than later at m, where it has arrived at what a shows with the fuel taken at k
   covers_before : (m : ℕ) → k ≤ m → Arrives (a i (b i k).fuel) (b i m) (b i (suc m)) → Covers heap stack (a i (b i k).fuel) (b i k)
   covers_before m le r =

@@ -1,5 +1,6 @@
 -- What a machine that keeps a program shows, and when.
-use Rattle.std.proofs.Common.{◌≡◌, ◌≢◌, ℕ, zero, suc, ◌+◌, ◌*◌, ◌<◌, ◌≤◌, ◌⊎◌, inl, inr, ap, sym, subst, ◌∙◌, List, arith}
+use Rattle.std.proofs.Common.{◌≡◌, ◌≢◌, ℕ, zero, suc, ◌+◌, ◌*◌, ◌<◌, ◌≤◌, ◌⊎◌, inl, inr, ap, sym, subst, ◌∙◌, arith}
+use Rattle.layers.specs.Input.{Input}
 use Rattle.std.proofs.lemmas.Bool.{cases_lt}
 use Rattle.layers.specs.Shown.{Seen, Runs, IsFull, Shows, IsLater, Covers, Repeats, ComesTo}
 use Rattle.layers.specs.Layer.{Layer, IsLawful}
@@ -11,12 +12,12 @@ use Rattle.layers.proofs.Moments.{later_to, stays_to}
 
 -- ---- the fuel that so many instructions stand for
 
-risen : (nodes : ℕ) (b : Layer) → RisesBy nodes b → (i : List ℕ) (k : ℕ) → (b i k).fuel ≤ (k + 1) * nodes
+risen : (nodes : ℕ) (b : Layer) → RisesBy nodes b → (i : Input) (k : ℕ) → (b i k).fuel ≤ (k + 1) * nodes
 risen nodes b rises i zero = let h = rises.first i in omega (arith, h)
 risen nodes b rises i (suc k) = let h = rises.next i k in let g = risen nodes b rises i k in omega (arith, h, g)
 
 -- with more fuel than was taken, the program has shown at least as much
-module _ (a : Layer) (fueled : IsByFuel a) (i : List ℕ) (j n : ℕ) (le : (a i j).fuel ≤ n) where
+module _ (a : Layer) (fueled : IsByFuel a) (i : Input) (j n : ℕ) (le : (a i j).fuel ≤ n) where
   later_with : IsLater (a i j) (a i n)
   later_with = subst (λ (s : Seen). IsLater s (a i n)) (fueled.enough i j) (later_to a fueled.lawful i (a i j).fuel n le)
 
@@ -57,7 +58,7 @@ carried {e} {m} {later} r on stays = record {
       (ap (λ (s : Seen). s.status) same ∙ x.0, ap (λ (s : Seen). s.output) same ∙ x.1);
 }
 
-module _ (machine : Layer) (lawful : IsLawful machine) (i : List ℕ) (e : Seen) where
+module _ (machine : Layer) (lawful : IsLawful machine) (i : Input) (e : Seen) where
   -- what was shown at k is shown later
   in_time : (k time : ℕ) → k ≤ time → Repeats e (machine i k) ⊎ IsFull (machine i k) → Shows (machine i time) e ⊎ IsFull (machine i time)
   in_time k time le (inl r) = inl (carried r (later_to machine lawful i k time le) (stays_to machine lawful i k time le))

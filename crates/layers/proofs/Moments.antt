@@ -1,11 +1,12 @@
 -- A lawful layer from one moment to any later one.
-use Rattle.std.proofs.Common.{◌≡◌, ◌≢◌, ℕ, zero, suc, ◌<◌, ◌≤◌, ◌⊎◌, inl, inr, ap, sym, subst, ◌∙◌, List, arith}
+use Rattle.std.proofs.Common.{◌≡◌, ◌≢◌, ℕ, zero, suc, ◌<◌, ◌≤◌, ◌⊎◌, inl, inr, ap, sym, subst, ◌∙◌, arith}
+use Rattle.layers.specs.Input.{Input}
 use Rattle.std.proofs.lemmas.Bool.{cases_lt}
 use Rattle.layers.specs.Shown.{Seen, Runs, IsLater}
 use Rattle.layers.specs.Layer.{Layer, IsLawful}
 use Rattle.layers.proofs.SeenLemmas.{later_itself, later_on}
 
-module _ (a : Layer) (lawful : IsLawful a) (i : List ℕ) where
+module _ (a : Layer) (lawful : IsLawful a) (i : Input) where
   -- one step more than n, from a moment that is at most that
   step_later : (k n : ℕ) → k ≤ suc n → (k ≤ n → IsLater (a i k) (a i n)) → (n < k) ⊎ (k ≤ n) → IsLater (a i k) (a i (suc n))
   step_later k n le before (inl past) = let e : k ≡ suc n = omega arith in subst (λ (m : ℕ). IsLater (a i k) (a i m)) e (later_itself (a i k))

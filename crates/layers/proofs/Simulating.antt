@@ -1,5 +1,6 @@
 -- A layer of steps that simulates another keeps its meaning.
-use Rattle.std.proofs.Common.{◌≡◌, ◌≢◌, ℕ, zero, suc, ◌+◌, ◌<◌, ◌≤◌, ◌⊎◌, inl, inr, refl, sym, subst, List, arith}
+use Rattle.std.proofs.Common.{◌≡◌, ◌≢◌, ℕ, zero, suc, ◌+◌, ◌<◌, ◌≤◌, ◌⊎◌, inl, inr, refl, sym, subst, arith}
+use Rattle.layers.specs.Input.{Input}
 use Rattle.std.proofs.lemmas.Bool.{cases_lt}
 use Rattle.layers.specs.Shown.{Seen, Runs, Covers}
 use Rattle.layers.specs.Layer.{Layer, IsLawful}
@@ -8,7 +9,7 @@ use Rattle.layers.specs.Laws.{KeepsOfSimulation}
 use Rattle.layers.proofs.SeenLemmas.{runs_or_not}
 use Rattle.layers.proofs.Moments.{stays_to}
 
-module _ (heap stack : ℕ) (a b : Layer) (lawful : IsLawful b) (i : List ℕ) (s : Simulates heap stack (a i) (b i)) (k : ℕ) where
+module _ (heap stack : ℕ) (a b : Layer) (lawful : IsLawful b) (i : Input) (s : Simulates heap stack (a i) (b i)) (k : ℕ) where
   abbrev Found : Type 0
   Found = (j : ℕ) × Covers heap stack (a i j) (b i k)
 

@@ -1,5 +1,6 @@
 -- Laws of layers, as the contracts of this crate state them.
-use Rattle.std.specs.Prelude.{ℕ, suc, ◌<◌, List}
+use Rattle.std.specs.Prelude.{ℕ, suc, ◌<◌}
+use Rattle.layers.specs.Input.{Input}
 use Rattle.layers.specs.Layer.{Layer, IsLawful, IsNeverFull, IsNeverAstray}
 use Rattle.layers.specs.Keeping.{Keeps}
 use Rattle.layers.specs.Fuel.{IsByFuel, FollowsByFuel, RisesBy}
@@ -40,7 +41,7 @@ KeepsOfFollows =
 
 abbrev pub KeepsOfSimulation : Type 0
 KeepsOfSimulation =
-    (heap stack : ℕ) (a b : Layer) → IsLawful b → ((i : List ℕ) → Simulates heap stack (a i) (b i)) → Keeps heap stack a b
+    (heap stack : ℕ) (a b : Layer) → IsLawful b → ((i : Input) → Simulates heap stack (a i) (b i)) → Keeps heap stack a b
 
 -- ---- a machine that keeps a program
 

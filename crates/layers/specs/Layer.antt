@@ -1,24 +1,25 @@
 -- Layers: what some code shows for each input at each moment (this project's own).
-use Rattle.std.specs.Prelude.{◌≡◌, ◌≢◌, ℕ, zero, suc, List}
+use Rattle.std.specs.Prelude.{◌≡◌, ◌≢◌, ℕ, zero, suc}
+use Rattle.layers.specs.Input.{Input}
 use Rattle.layers.specs.Shown.{Seen, Runs, Ended, Astray, IsFull, IsLater}
 
--- A layer: for each input, a list of code points, and each moment what is seen then. The moments of a machine are numbers
+-- A layer: for each input and each moment what is seen then. The moments of a machine are numbers
 -- of steps; those of an evaluator are amounts of fuel that it was given.
 abbrev pub Layer : Type 0
-Layer = (input : List ℕ) → (moment : ℕ) → Seen
+Layer = (input : Input) → (moment : ℕ) → Seen
 
 -- a layer goes on until it no longer runs, and then stays
 pub record IsLawful (a : Layer) : Type 0 where
-  pub later : (i : List ℕ) (k : ℕ) → IsLater (a i k) (a i (suc k))
-  pub stays : (i : List ℕ) (k : ℕ) → (a i k).status ≢ Runs → a i (suc k) ≡ a i k
+  pub later : (i : Input) (k : ℕ) → IsLater (a i k) (a i (suc k))
+  pub stays : (i : Input) (k : ℕ) → (a i k).status ≢ Runs → a i (suc k) ≡ a i k
 
 -- no layer but the machine is ever full
 abbrev pub IsNeverFull : Layer → Type 0
-IsNeverFull a = (i : List ℕ) (k : ℕ) → ¬ IsFull (a i k)
+IsNeverFull a = (i : Input) (k : ℕ) → ¬ IsFull (a i k)
 
 -- it never comes to the end without a meaning
 abbrev pub IsNeverAstray : Layer → Type 0
-IsNeverAstray a = (i : List ℕ) (k : ℕ) → (a i k).status ≢ Ended Astray
+IsNeverAstray a = (i : Input) (k : ℕ) → (a i k).status ≢ Ended Astray
 
 -- ---- layers of steps
 
@@ -28,7 +29,7 @@ after step (suc k) s = step (after step k s)
 
 -- a code: its first state for each input, its step, and what is seen of a state
 pub record Steps (S : Type 0) : Type 0 where
-  pub first : (input : List ℕ) → S
+  pub first : (input : Input) → S
   pub step : S → S
   pub seen : S → Seen
 

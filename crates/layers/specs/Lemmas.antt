@@ -1,12 +1,14 @@
 -- What holds for codes of any type, and for any relation between states. No contract can range over these: so they stand
 -- here with their proofs, over the laws that `Laws` states.
 use Rattle.std.proofs.Common.{◌≡◌, ◌≢◌, ℕ, zero, suc, ◌+◌, ◌-◌, ◌<◌, ◌≤◌, ◌⊎◌, inl, inr, refl, ap, sym, subst, ◌∙◌, List, [], ◌∷◌, ◌++◌, append_assoc, arith}
+use Rattle.layers.specs.Input.{Input}
 use Rattle.layers.specs.Shown.{Seen, Runs, IsFull, NeedsNoLess, Covers, ComesTo}
 use Rattle.layers.specs.Layer.{IsLawful, Steps, after, layer_of, IsLawfulCode}
 use Rattle.layers.specs.Keeping.{Keeps}
 use Rattle.layers.specs.Simulation.{Simulates, LeadsOn, IsSimulation}
 use Rattle.layers.specs.Among.{Together, KeepsAmong, Each, AllKeep, KeepsAcross, Then, AreNeverFull}
-use Rattle.layers.specs.Laws.{KeepsItself, KeepsComposes, KeepsOfSimulation}
+use Rattle.layers.specs.Fuel.{IsByFuel, FollowsByFuel}
+use Rattle.layers.specs.Laws.{KeepsItself, KeepsComposes, KeepsOfFollows, KeepsOfSimulation}
 
 -- ---- codes among others
 
@@ -63,6 +65,13 @@ module _ {C D E : Type 0} (R : C → D → Type 0) (Q : D → E → Type 0) wher
       composes heap stack (above prelude cs) (middle prelude ds.0) (below prelude es) (free prelude ds.0)
       (p prelude cs ds.0 ds.1 heap stack) (q prelude ds.0 es ds.2 heap stack)
 
+-- lists of codes by fuel, each of which the list made of it comes to show
+pub all_keep_of_follows : {C D : Type 0} (above : Together C) (below : Together D) (R : C → D → Type 0) → KeepsOfFollows →
+    ((prelude : ℕ) (cs : List C) → IsByFuel (above prelude cs)) → ((prelude : ℕ) (ds : List D) → IsLawful (below prelude ds)) → AreNeverFull below →
+    ((prelude : ℕ) (cs : List C) (ds : List D) → Each R cs ds → FollowsByFuel (above prelude cs) (below prelude ds)) → AllKeep above below R
+all_keep_of_follows above below R law fueled lawful free follows prelude cs ds each heap stack =
+    law heap stack (above prelude cs) (below prelude ds) (fueled prelude cs) (lawful prelude ds) (free prelude ds) (follows prelude cs ds each)
+
 -- ---- codes of steps
 
 -- the layer of a lawful code is lawful
@@ -83,7 +92,7 @@ after_sum step (suc n) k s =
     ap (λ (m : ℕ). after step m s) e ∙ ap step (after_sum step n k s)
 
 -- a relation between states makes a simulation on each input
-module _ {S T : Type 0} (a : Steps S) (b : Steps T) (measure : S → ℕ) (R : S → T → Type 0) (heap stack : ℕ) (lawful : IsLawfulCode a) (simulation : IsSimulation heap stack a b measure R) (i : List ℕ) where
+module _ {S T : Type 0} (a : Steps S) (b : Steps T) (measure : S → ℕ) (R : S → T → Type 0) (heap stack : ℕ) (lawful : IsLawfulCode a) (simulation : IsSimulation heap stack a b measure R) (i : Input) where
   -- a's state after so many steps, and b's
   abbrev left : ℕ → S
   left j = after a.step j (a.first i)

@@ -1,5 +1,6 @@
 -- The definitions of this crate.
 pub use Rattle.lisp_base.specs.Seen
+pub mod Input
 pub mod Shown
 pub mod Layer
 pub mod Keeping

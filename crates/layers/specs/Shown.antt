@@ -10,13 +10,13 @@ Look = ℕ → Tree
 pub data ErrorKind : Type 0 where
   TypeError Index Overflow ZeroDivide Unbound Undefined Arguments Control EndOfFile Simple : ErrorKind
 
--- the form that signals: in the file by its offset and its number of CDRs, or in the prelude function of a name
+-- the form that signals: in the file by its offset and its number of CDRs, or in the prelude function of a name, in UTF-8
 pub data FormPlace : Type 0 where
   InFile : (offset tail : ℕ) → FormPlace
   InPrelude : (function : List ℕ) → FormPlace
 
 -- How a run ends: with a value; or with an error, of which are seen its kind, its data in order, the text of the
--- operation or of the expected type where its kind has one, and its place. Astray is an end without a meaning.
+-- operation or of the expected type, in UTF-8, where its kind has one, and its place. Astray is an end without a meaning.
 pub data End : Type 0 where
   Value : Look → End
   Error : (kind : ErrorKind) → (shown : List Look) → (text : Option (List ℕ)) → (place : FormPlace) → End

@@ -1,5 +1,6 @@
 -- One layer of steps that goes along with another, step by steps (this project's own).
-use Rattle.std.specs.Prelude.{◌≡◌, ℕ, suc, ◌≤◌, ◌<◌, ◌⊎◌, List}
+use Rattle.std.specs.Prelude.{◌≡◌, ℕ, suc, ◌≤◌, ◌<◌, ◌⊎◌}
+use Rattle.layers.specs.Input.{Input}
 use Rattle.layers.specs.Shown.{Seen, Runs, IsFull, NeedsNoLess, Covers, ComesTo}
 use Rattle.layers.specs.Layer.{Steps, after}
 
@@ -26,7 +27,7 @@ pub record LeadsOn (heap stack : ℕ) {S T : Type 0} (a : Steps S) (b : Steps T)
 
 -- a relation that holds of the first states, in which b has come to what a shows, and that each step of a leads on
 pub record IsSimulation (heap stack : ℕ) {S T : Type 0} (a : Steps S) (b : Steps T) (measure : S → ℕ) (R : S → T → Type 0) : Type 0 where
-  pub starts : (i : List ℕ) → R (a.first i) (b.first i)
-  pub first : (i : List ℕ) → Covers heap stack (a.seen (a.first i)) (b.seen (b.first i))
+  pub starts : (i : Input) → R (a.first i) (b.first i)
+  pub first : (i : Input) → Covers heap stack (a.seen (a.first i)) (b.seen (b.first i))
   pub comes : (s : S) (t : T) → R s t → ComesTo (a.seen s) (b.seen t)
   pub goes : (s : S) (t : T) → R s t → (n : ℕ) × LeadsOn heap stack a b measure R s t n

@@ -5,14 +5,14 @@ use Rattle.std.specs.List.{list_any, position, position_or_len}
 use Rattle.std.specs.Str.{bytes_eq}
 use Rattle.std.proofs.lemmas.List.Elements.{All-push, All-weaker}
 use Rattle.std.proofs.lemmas.List.Folds.{list_any_none}
-use Rattle.std.proofs.lemmas.List.{length-map, map-append, length-append}
+use Rattle.std.proofs.lemmas.List.{length-map, map-append, length-append, append-nil, append_assoc}
 use Rattle.lisp_base.specs.declared.values.SymKind.{SymKind}
 use Rattle.lisp_base.specs.declared.values.SymKind.TheVariants as kinds
 use Rattle.lisp_base.specs.contracts.symbols.EntryPartialEq.TheImpl.{eq-value}
 use Rattle.lisp_base.specs.declared.symbols.Entry.{Entry}
 use Rattle.lisp_base.specs.declared.symbols.Entry.TheVariants as entry
 use Rattle.lisp_base.specs.Sort.{symbol}
-use Rattle.lisp_base.specs.Tables.{added, interned, found_or_added, Symbol, make_symbol, is_symbol, is_interned, make_table, most_symbols, first_table}
+use Rattle.lisp_base.specs.Tables.{added, interned, found_or_added, Symbol, make_symbol, is_symbol, is_interned, make_table, most_symbols, first_table, base_symbols, BeginsWithNames}
 use Rattle.lisp_base.specs.Kept.{symbol_of, symbols_of, same_entry, IsNumberedBelow, AllNumberedBelow, IsKept}
 use Rattle.lisp_base.proofs.BaseTable.{with_name, few_base_names}
 use Rattle.indexmap.specs.IndexSet.{insert_key}
@@ -78,6 +78,11 @@ numbered_higher n (entry.Plain b) h = tt
 numbered_higher n (entry.Keyword b) h = tt
 numbered_higher n (entry.Fresh b m) h = omega arith
 
+-- a list of symbols that begins with the base names' still does so with one more
+begins_more : (es new : List Entry) (e : Entry) → BeginsWithNames (symbols_of es) → new ≡ es ++ e ∷ [] → BeginsWithNames (symbols_of new)
+begins_more es new e begins is =
+    (begins.0 ++ symbol_of e ∷ [], ap symbols_of is ∙ (map-append symbol_of es (e ∷ []) ∙ (ap (λ ss. ss ++ symbol_of e ∷ []) begins.1 ∙ append_assoc base_symbols begins.0 (symbol_of e ∷ []))))
+
 -- a table with one more entry keeps what is so of every table
 pub kept_more : (es new : List Entry) (e : Entry) (fresh after : ℕ) → IsKept es fresh → length es < most_symbols → after ≤ length es + 1 → IsNumberedBelow (length es + 1) e → new ≡ es ++ e ∷ [] → IsKept new after
 kept_more es new e fresh after kept room counted numbered is =
@@ -85,6 +90,7 @@ kept_more es new e fresh after kept room counted numbered is =
     record {
       few = omega arith;
       counted = omega arith;
+      begins = begins_more es new e kept.begins is;
       numbered = subst (λ (m : ℕ). AllNumberedBelow m new) (sym longer) (subst (AllNumberedBelow (length es + 1)) (sym is) (All-push (IsNumberedBelow (length es + 1)) es e (All-weaker (IsNumberedBelow (length es)) (IsNumberedBelow (length es + 1)) (numbered_higher (length es)) es kept.numbered) numbered));
     }
 
@@ -154,5 +160,6 @@ pub kept_first : (es : List Entry) → symbols_of es ≡ first_table.symbols →
 kept_first es is all = record {
   few = subst (λ (n : ℕ). n ≤ most_symbols) (ap length (sym is) ∙ length-map es symbol_of) few_base_names;
   counted = omega arith;
+  begins = ([], is ∙ sym (append-nil first_table.symbols));
   numbered = All-weaker (IsNumberedBelow 0) (IsNumberedBelow (length es)) (numbered_from_zero (length es)) es all;
 }

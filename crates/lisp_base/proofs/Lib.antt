@@ -4,3 +4,4 @@ pub mod Entries
 pub mod SpecLemmas
 pub mod PrimNamesLemmas
 mod ReadingLemmas
+mod NameLaws

@@ -3,10 +3,11 @@ use Rattle.std.proofs.Common.{◌≡◌, ℕ, ◌<◌, ◌≤◌, List, map, len
 use Rattle.std.proofs.lemmas.Option.{slice_get-map, slice_get_read, slice_get_past}
 use Rattle.lisp_base.specs.declared.primitives.Primitive.TheVariants as op
 use Rattle.lisp_base.specs.declared.primitives.Primitive.{Primitive}
-use Rattle.lisp_base.specs.BaseNames.{base_names}
+use Rattle.lisp_base.specs.BaseNames.{base_names, helper_names, left_out_names, lambda_list_names}
 use Rattle.lisp_base.specs.PrimNames.{EachPrimitiveIsNamed, prim_named, of_name, prim_at}
 
 pub each_primitive_is_named : EachPrimitiveIsNamed
+unfolding base_names helper_names left_out_names lambda_list_names
 each_primitive_is_named op.Cons = (22, refl)
 each_primitive_is_named op.List = (23, refl)
 each_primitive_is_named op.Car = (61, refl)

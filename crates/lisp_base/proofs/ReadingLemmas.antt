@@ -1,12 +1,9 @@
 -- How a specifier that holds a list is read.
 use Rattle.std.specs.Prelude.{◌≡◌}
 use Rattle.std.proofs.Common.{refl, ap, rules}
-use Rattle.std.specs.declared.vec.Vec.{Vec}
-use Rattle.std.specs.declared.alloc.Global.{Global}
-use Rattle.lisp_base.specs.declared.types.TypeSpec.{TypeSpec, the_lemmas}
-use Rattle.lisp_base.specs.declared.types.TypeSpec.TheVariants as variant
+use Rattle.lisp_base.specs.declared.types.TypeSpec.{the_lemmas}
 use Rattle.lisp_base.specs.declared.types.TypeSpec.TheBlock as t
-use Rattle.lisp_base.specs.Spec.{And, Or, spec}
+use Rattle.lisp_base.specs.Spec.{spec}
 use Rattle.lisp_base.specs.Reading.{spec_of, specs_of}
 use Rattle.lisp_base.specs.Laws.{specs_list, ReadsAnd, ReadsOr}
 

@@ -4,7 +4,7 @@ use Rattle.std.specs.Str.{bytes_eq}
 use Rattle.lisp_base.specs.declared.values.SymKind.TheVariants as kinds
 use Rattle.lisp_base.specs.declared.symbols.Entry.{Entry}
 use Rattle.lisp_base.specs.declared.symbols.Entry.TheVariants as entry
-use Rattle.lisp_base.specs.Tables.{Symbol, make_symbol, most_symbols}
+use Rattle.lisp_base.specs.Tables.{Symbol, make_symbol, most_symbols, BeginsWithNames}
 
 abbrev pub symbol_of : Entry → Symbol
 symbol_of (entry.Plain name) = make_symbol (string_bytes name) kinds.Plain
@@ -28,6 +28,7 @@ pub record IsKept (entries : List Entry) (fresh : ℕ) : Type 0 where
   pub few : length entries ≤ most_symbols
   pub counted : fresh ≤ length entries
   pub numbered : AllNumberedBelow (length entries) entries
+  pub begins : BeginsWithNames (symbols_of entries)
 
 -- whether two entries are the same symbol's
 abbrev pub same_entry : Entry → Entry → Bool

@@ -16,3 +16,4 @@ pub mod InStore
 pub mod Kinds
 pub mod Lawful
 pub mod Laws
+pub mod Constants

@@ -10,6 +10,7 @@ use Rattle.lisp_base.specs.declared.rows.PrimRow.{PrimRow}
 use Rattle.lisp_base.specs.declared.types.TypeName.TheVariants as name
 use Rattle.lisp_base.specs.declared.types.Bound.TheVariants.{At}
 use Rattle.lisp_base.specs.Sort.{nil, truth}
+use Rattle.lisp_base.specs.Shown.{most_elements}
 use Rattle.lisp_base.specs.Spec.{Spec, Named, Integer, Member, And, Or, Not, spec, no_spec}
 
 -- three places, T from the end on
@@ -78,6 +79,10 @@ prim_row op.ValuesList = takes (types.List ∷ []) types.T own.ProperList
 
 -- ---- the types of the table
 
+-- the greatest code point
+unfoldable pub greatest_code : ℕ
+greatest_code = 1114111
+
 abbrev pub up_to : ℕ → Spec
 up_to most = Integer (At (pos 0)) (At (pos most))
 
@@ -96,8 +101,8 @@ abbrev pub prim_type_spec : PrimType → Spec
 prim_type_spec types.T = Named name.T
 prim_type_spec types.Never = Named name.Nil
 prim_type_spec types.Integer = Named name.Integer
-prim_type_spec types.CodePoint = up_to 1114111
-prim_type_spec types.Length = up_to 16777215
+prim_type_spec types.CodePoint = up_to greatest_code
+prim_type_spec types.Length = up_to most_elements
 prim_type_spec types.Character = Named name.Character
 prim_type_spec types.CharacterOrNull = either_of (Named name.Character) (Named name.Null)
 prim_type_spec types.Boolean = Named name.Boolean

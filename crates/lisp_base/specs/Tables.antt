@@ -1,6 +1,6 @@
 -- The symbol table and the heap as lists (this project's own).
-use Rattle.std.specs.Prelude.{ℕ, ◌+◌, Bool, true, false, ◌&&◌, List, [], ◌∷◌, ◌++◌, Option, Some, None, if◌then◌else◌, length, map, nat_lt, codes, decimal}
-use Rattle.std.specs.List.{position}
+use Rattle.std.specs.Prelude.{◌≡◌, ℕ, ◌+◌, Bool, true, false, ◌&&◌, List, [], ◌∷◌, ◌++◌, Option, Some, None, if◌then◌else◌, length, map, nat_lt, codes, decimal}
+use Rattle.std.specs.List.{position, position_or_len}
 use Rattle.std.specs.Str.{bytes_eq}
 use Rattle.lisp_base.specs.declared.values.SymKind.{SymKind}
 use Rattle.lisp_base.specs.declared.values.SymKind.TheVariants as kinds
@@ -83,9 +83,24 @@ made_fresh t = added (make_symbol (fresh_name (t.fresh + 1)) kinds.Fresh) (t.fre
 abbrev pub restarted : Table → Table
 restarted t = make_table t.symbols 0
 
+abbrev pub plain_symbol : List ℕ → Symbol
+plain_symbol name = make_symbol name kinds.Plain
+
+-- the symbols of the base names, in their order
+abbrev pub base_symbols : List Symbol
+base_symbols = map plain_symbol base_names
+
 -- the table to begin with
 abbrev pub first_table : Table
-first_table = make_table (map (λ name. make_symbol name kinds.Plain) base_names) 0
+first_table = make_table base_symbols 0
+
+-- a list of symbols, as each table's, that begins with those of the base names
+abbrev pub BeginsWithNames : List Symbol → Type 0
+BeginsWithNames symbols = (others : List Symbol) × (symbols ≡ base_symbols ++ others)
+
+-- the symbol of a base name, by its place among them; any other name gives one that no table begins with
+abbrev pub base_symbol : List ℕ → SymId
+base_symbol name = symbol (position_or_len (bytes_eq name) base_names)
 
 -- ---- objects
 

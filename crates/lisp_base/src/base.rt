@@ -1,10 +1,14 @@
 //! The names that every symbol table begins with.
 
-ghost use Rattle.std.specs.Prelude.{◌≡◌, map};
+ghost use Rattle.std.specs.Prelude.{◌≡◌, ◌<◌, length, map, slice_get};
+ghost use Rattle.std.specs.Option.{option_map};
 ghost use Rattle.lisp_base.specs.BaseNames.{base_names};
+ghost use Rattle.lisp_base.specs.Sort.{number_of};
+
+use crate::values::SymId;
 
 // NIL and T have their fixed numbers by standing first, and the reader's symbols by following them.
-static BASE_NAMES: [&str; 291] = [
+static BASE_NAMES: [&str; 314] = [
     // The false value, the true value, and what the reader writes for its prefixes.
     "NIL",
     "T",
@@ -308,13 +312,46 @@ static BASE_NAMES: [&str; 291] = [
     "%APPEND",
     "%NTHSET",
     "%ASET",
+    "%+",
+    "%-",
+    "%*",
+    "%TRUNCATE",
+    "%FLOOR",
+    "%REM",
+    "%MOD",
+    "%ASH",
+    "%RPLACD",
+    "%CHAR-CODE",
+    "%CODE-CHAR",
+    "%READ-CHAR",
+    "%SYMBOL-VALUE",
+    "%SYMBOL-FUNCTION",
+    "%SET",
+    "%BOUNDP",
+    "%FBOUNDP",
+    "%VALUES-LIST",
+    "%WRITE",
+    // Keyword parameters of the prelude.
+    "TEST",
+    "KEY",
+    "INITIAL-VALUE",
+    "INITIAL-ELEMENT",
 ];
 
 /// The names that every symbol table begins with, each once: NIL, then T, then all names that the
 /// language has of itself (ANSI Common Lisp and CMUCL's compiler; those with `%` are the project's
-/// own).
+/// own). They are fewer than 1,000.
 pub fn base_names() -> &'static [&'static str]
-    ensures { map (λ name. name.now) result.now ≡ base_names }
+    ensures names { map (λ name. name.now) result.now ≡ base_names }
+    ensures few { length result.now < 1000 }
 {
     &BASE_NAMES
+}
+
+/// The base name that a symbol has by its number, in any table; None exactly where the table's
+/// symbol of this number, if it has one, is none of those that every table begins with.
+pub fn base_name_of(symbol: SymId) -> Option<&'static str>
+    ensures { option_map (λ name. name.now) result ≡ slice_get base_names (number_of symbol) }
+{
+    base_names().get(symbol.0 as usize).copied()
 }

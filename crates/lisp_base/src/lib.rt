@@ -3,6 +3,7 @@
 #![tactic(auto)]
 
 mod base;
+pub mod base_symbols;
 mod heap;
 mod laws;
 mod prim_names;
@@ -15,9 +16,9 @@ mod symbols;
 mod types;
 mod values;
 
-pub use base::base_names;
+pub use base::{base_name_of, base_names};
 pub use heap::Heap;
-pub use laws::reads_specs;
+pub use laws::{base_names_stand, constants_are_base_symbols, reads_specs, sorts_are_base_names};
 pub use prim_names::{each_primitive_is_named, prim_of};
 pub use primitives::Primitive;
 pub use row_types::prim_spec;

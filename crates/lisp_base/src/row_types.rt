@@ -15,6 +15,7 @@ use std::alloc::{AllocError, Global};
 /// # Errors
 ///
 /// Only for want of memory.
+#[tactic(auto, unfolding(crate::specs::Rows::greatest_code, crate::specs::Shown::most_elements))]
 pub fn prim_spec(alloc: Global, t: PrimType) -> Result<TypeSpec, AllocError>
     ensures { IfOk result (λ s. spec_of s ≡ prim_type_spec t) }
 {

@@ -89,7 +89,8 @@ impl Entry {
 // How many symbols a table can have.
 const MOST_SYMBOLS: usize = 65_536;
 
-/// The symbols of a program, numbered from 0 in order of first use. NIL is 0 and T is 1. A contract
+/// The symbols of a program, numbered from 0 in order of first use. The base names come first, so
+/// NIL is 0 and T is 1. A contract
 /// sees a table as the list of its symbols, with the number of uninterned ones that came since it
 /// was made or last restarted.
 #[derive(Drop)]
@@ -110,6 +111,8 @@ impl Model for SymTab {
 }
 
 impl SymTab {
+    ghost use Rattle.lisp_base.specs.Tables.{BeginsWithNames};
+
     /// The table to begin with: the base names in their order, as plain symbols.
     ///
     /// # Errors
@@ -183,6 +186,15 @@ impl SymTab {
         ensures { result ≡ option_map (λ s. s.kind) (slice_get self.now.symbols id.0) }
     {
         Some(self.entries.get_index(id.0 as usize)?.kind())
+    }
+
+    /// A law of every table: its first symbols are the base names in their order, as plain symbols.
+    /// So symbol n below their number is the nth base name, NIL is 0 and T is 1. A call does
+    /// nothing.
+    pub fn begins_with_names(&self)
+        ensures { BeginsWithNames self.now.symbols }
+    {
+        let _ = &self.entries;
     }
 }
 

@@ -53,3 +53,19 @@ fn objects_are_kept(rt: HostRuntime) -> Result<(), Fail> {
     assert!(rt; heap.get(ObjId(2)).is_none());
     Ok(())
 }
+
+#[test]
+fn base_names_have_symbols(rt: HostRuntime) -> Result<(), Fail> {
+    let mut table = SymTab::new(rt.alloc())?;
+    let read = table
+        .intern("MULTIPLE-VALUE-CALL", SymKind::Plain)
+        .ok()
+        .ok_or("no symbol")?;
+    assert_eq!(rt; read, base_symbols::MULTIPLE_VALUE_CALL);
+    assert_eq!(rt; base_name_of(read), Some("MULTIPLE-VALUE-CALL"));
+    assert_eq!(rt; base_name_of(SymId(0)), Some("NIL"));
+    let last = base_names().len() as u32 - 1;
+    assert_eq!(rt; base_name_of(SymId(last)), Some("INITIAL-ELEMENT"));
+    assert_eq!(rt; base_name_of(SymId(last + 1)), None);
+    Ok(())
+}

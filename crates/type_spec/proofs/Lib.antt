@@ -6,3 +6,4 @@ pub mod Calls
 pub mod Lawfulness
 pub mod Loops
 pub mod Powers
+pub mod Parsed

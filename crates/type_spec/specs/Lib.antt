@@ -2,3 +2,5 @@
 pub mod Forms
 pub mod Writing
 pub mod Texts
+pub mod Parsing
+pub mod Each

@@ -16,6 +16,7 @@ pub use membership::has;
 pub use parse::parse_type;
 pub use size::spec_size;
 pub use text::spec_text;
+pub use words::word_of;
 
 #[cfg(test)]
 mod tests;

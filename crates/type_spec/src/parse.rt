@@ -4,6 +4,7 @@ ghost use Rattle.std.specs.Prelude.{◌≡◌, ◌+◌, OnOk, OnErr, IfOk};
 ghost use Rattle.lisp_base.specs.Reading.{spec_of};
 ghost use Rattle.lisp_base.specs.Laws.{specs_list};
 ghost use Rattle.lisp_base.specs.Lawful.{IsLawful, most_parts};
+ghost use Rattle.type_spec.specs.Parsing.{specifier};
 ghost use Rattle.type_spec.specs.Writing.{Writes, IsRead, AreRead, AreListed, IsReadAfter, WritesNone, ListsNone, HasNoItems, WritesNoneAfter};
 
 use crate::fault::TypeFault;
@@ -168,6 +169,8 @@ pub fn parse_type(
     ensures writes { IfOk result (λ t. Writes heap.now symbols.now (spec_of t) form) }
     ensures lawful { IfOk result (λ t. IsLawful symbols.now (spec_of t)) }
     ensures bad { result ≡ Err TypeFault.BadType → WritesNone heap.now symbols.now form most_parts }
+    ensures found { IfOk result (λ t. specifier heap.now symbols.now form ≡ Some (spec_of t)) }
+    ensures none { result ≡ Err TypeFault.BadType → specifier heap.now symbols.now form ≡ None }
 {
     let mut room = MOST_PARTS;
     tree(alloc, form, symbols, heap, &mut room)

@@ -5,7 +5,6 @@ ghost use Rattle.std.specs.Fmt.{signed_decimal};
 ghost use Rattle.std.specs.String.{string_bytes};
 ghost use Rattle.lisp_base.specs.Reading.{spec_of};
 ghost use Rattle.lisp_base.specs.Laws.{specs_list};
-ghost use Rattle.lisp_base.specs.Lawful.{IsLawful};
 ghost use Rattle.lisp_base.specs.Names.{type_name_text};
 ghost use Rattle.type_spec.specs.Texts.{item_text, items_text, bound_text, spec_text as text_of, specs_text};
 
@@ -212,7 +211,6 @@ fn add_spec(
 /// # Errors
 /// Want of memory alone.
 pub fn spec_text(alloc: Global, spec: &TypeSpec, symbols: &SymTab) -> Result<String, AllocError>
-    requires { IsLawful symbols.now (spec_of spec.now) }
     ensures { IfOk result (λ text. string_bytes text ≡ text_of symbols.now (spec_of spec.now)) }
 {
     let heap = Heap::new(alloc);

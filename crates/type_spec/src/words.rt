@@ -143,8 +143,8 @@ fn type_of(word: &str) -> Option<TypeName>
     }
 }
 
-/// The name of a plain symbol.
-pub(crate) fn word_of(symbols: &SymTab, v: Val) -> Option<&str>
+/// The name of a plain symbol; None for any other form.
+pub fn word_of(symbols: &SymTab, v: Val) -> Option<&str>
     ensures { option_map (λ word. word.now) result ≡ word_at symbols.now v }
 {
     let Val::Sym(id) = v else {

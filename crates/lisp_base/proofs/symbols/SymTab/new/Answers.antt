@@ -21,10 +21,10 @@ pub invariant_of-result : goal.invariant_of-result
 invariant_of-result c =
     let names : List (Bor (List ℕ)) = c.base_names-name-items.result.now in
     let all : take c.loop-name.name-index names ≡ names = take_all c.loop-name.name-index names (omega arith) in
-    kept_first c.loop-name.entries.keys (c.loop-name.invariant.used ∙ (ap (with_names []) all ∙ first_symbols names c.base_names-name-items.ensures)) c.loop-name.invariant.numbered
+    kept_first c.loop-name.entries.keys (c.loop-name.invariant.used ∙ (ap (with_names []) all ∙ first_symbols names c.base_names-name-items.ensures.names)) c.loop-name.invariant.numbered
 
 pub returns : goal.returns
 returns c =
     let names : List (Bor (List ℕ)) = c.base_names-name-items.result.now in
     let all : take c.loop-name.name-index names ≡ names = take_all c.loop-name.name-index names (omega arith) in
-    ap (λ ss. make_table ss 0) (c.loop-name.invariant.used ∙ (ap (with_names []) all ∙ first_symbols names c.base_names-name-items.ensures))
+    ap (λ ss. make_table ss 0) (c.loop-name.invariant.used ∙ (ap (with_names []) all ∙ first_symbols names c.base_names-name-items.ensures.names))

@@ -1,0 +1,19 @@
+-- The lemmas of this crate.
+pub mod Written
+pub mod Maps
+pub mod EdgesKept
+pub mod Allowed
+pub mod Touched
+pub mod NodeGone
+pub mod BlockGone
+pub mod Substituted
+pub mod Built
+pub mod NodeBuilt
+pub mod Attached
+pub mod FunctionBuilt
+pub mod Distinct
+pub mod TwoParts
+pub mod Regrouped
+pub mod Splits
+pub mod Joins
+pub mod Arrivals

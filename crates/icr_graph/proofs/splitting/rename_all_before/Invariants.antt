@@ -1,0 +1,8 @@
+use Rattle.std.proofs.Common.{◌≡◌, take}
+use Rattle.ir_ids.specs.Entries.{map_of}
+use Rattle.icr_graph.specs.Lists.{touched}
+use Rattle.icr_graph.specs.Edits.{behind_block}
+use Rattle.icr_graph.proofs.splitting.rename_all_before.Given as goal
+
+abbrev pub invariant-loop-id : goal.invariant-loop-id
+invariant-loop-id l = map_of l.blocks ≡ touched (take l.id-index l.ids) (behind_block l.old l.new) (map_of l.fn.blocks)

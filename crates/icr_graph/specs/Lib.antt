@@ -1,0 +1,10 @@
+pub mod Lists
+pub mod Kinds
+pub mod Plain
+pub mod Whole
+pub mod Edits
+pub mod Faults
+pub mod Removal
+pub mod Building
+pub mod Splitting
+pub mod Joining

@@ -1,0 +1,4 @@
+use Rattle.std_macros.proofs.making.list_before.Goals as goal
+
+pub returns : goal.returns
+returns c = c.reads_templates.ensures c.args.elements c.args.tail
