@@ -1,0 +1,4 @@
+-- The definitions of this crate.
+pub mod Bodies
+pub mod Policies
+pub mod Declarations
