@@ -1,0 +1,4 @@
+-- The lemmas of this crate.
+pub mod Keywords
+pub mod WholeLists
+pub mod Cuts
