@@ -1,0 +1,9 @@
+use Rattle.std.proofs.Common.{◌≡◌, ◌++◌, drop}
+use Rattle.std.specs.Prelude.{flat_map}
+use Rattle.closed_copies.specs.Table.{called_of}
+use Rattle.closed_copies.specs.Walked.{events_list}
+use Rattle.closed_copies.proofs.functions.called_in.Given as goal
+
+abbrev pub invariant-loop-event : goal.invariant-loop-event
+invariant-loop-event l =
+    l.places.items ++ flat_map (called_of l.functions) (events_list (drop l.event-index l.events)) ≡ flat_map (called_of l.functions) (events_list l.events)
