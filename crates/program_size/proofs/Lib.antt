@@ -1,0 +1,14 @@
+pub mod Sums
+pub mod Places
+pub mod Chosen
+pub mod Walked
+pub mod Inside
+pub mod Noted
+pub mod Seen
+pub mod Agreed
+pub mod Grown
+pub mod Nodes
+pub mod Final
+pub mod Looking
+pub mod Added
+pub mod Quoted

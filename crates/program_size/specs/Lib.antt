@@ -1,0 +1,6 @@
+pub mod Mentions
+pub mod Sizes
+pub mod Walk
+pub mod Inside
+pub mod Marking
+pub mod Counting
