@@ -1,0 +1,4 @@
+-- The lemmas of this crate.
+pub mod Named
+pub mod SmallForms
+pub mod FurtherForms
