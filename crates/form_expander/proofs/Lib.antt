@@ -1,0 +1,11 @@
+-- The lemmas of this crate.
+pub mod Rows
+pub mod Bound
+pub mod Matching
+pub mod SketchReading
+pub mod SketchLists
+pub mod Contents
+pub mod Declaring
+pub mod Follow
+pub mod Nested
+pub mod Others

@@ -1,0 +1,7 @@
+use Rattle.std.proofs.Common.{◌≡◌, ◌++◌, drop, map}
+use Rattle.lisp_base.specs.Reading.{spec_of}
+use Rattle.form_expander.proofs.parameters.add_copies.Given as goal
+
+abbrev pub invariant-loop-spec : goal.invariant-loop-spec
+invariant-loop-spec l =
+    map spec_of l.types.items ++ map spec_of (drop l.spec-index l.specs) ≡ map spec_of l.initial.types.items ++ map spec_of l.specs

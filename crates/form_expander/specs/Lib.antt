@@ -1,0 +1,7 @@
+-- The definitions of this crate.
+pub mod Reading
+pub mod Outcomes
+pub mod Marks
+pub mod Besides
+pub mod Contained
+pub mod Stepping
