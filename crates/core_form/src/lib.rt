@@ -9,13 +9,9 @@ mod laws;
 mod node_laws;
 mod programs;
 mod scopes;
-#[cfg(test)]
-mod tests;
 mod text;
 mod text_heads;
 mod text_page;
-#[cfg(test)]
-mod text_tests;
 mod text_variables;
 mod text_words;
 mod tree;
@@ -28,7 +24,7 @@ pub use laws::{
 };
 pub use node_laws::reads_nodes;
 pub use programs::{Program, Tops};
-pub use text::core_text;
+pub use text::{core_text, forms_text};
 pub use tree::{
     Binding, Core, Definition, Form, Item, Lambda, Optional, Parameter, TopForm, Variable,
 };

@@ -243,8 +243,11 @@ fn write_lines(page: &mut Page, source: &Source<'_>, forms: &[TopForm]) -> Resul
     Ok(())
 }
 
-/// The text of top-level forms, by the objects and the symbols that they name.
-pub(crate) fn forms_text(
+/// The text of top-level forms, one line a form, by the objects and the symbols that they name.
+///
+/// # Errors
+/// Want of memory alone.
+pub fn forms_text(
     alloc: Global,
     forms: &[TopForm],
     heap: &Heap,

@@ -28,10 +28,3 @@ pub use nodes::{
     VarIds,
 };
 pub use parts::{Assertion, Assertions, Block, Cont, Function, Variable};
-
-#[cfg(test)]
-mod building_tests;
-#[cfg(test)]
-mod regrouping_tests;
-#[cfg(test)]
-mod tests;

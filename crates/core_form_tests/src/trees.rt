@@ -1,5 +1,5 @@
 // Nodes, made with ample memory.
-use crate::{
+use core_form::{
     Binding, Core, Form, Item, Lambda, Optional, Parameter, TopForm, Variable, call, check_core,
     checked, choice, quote, sequence,
 };

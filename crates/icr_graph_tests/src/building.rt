@@ -1,7 +1,7 @@
 ghost use Rattle.std.specs.Prelude.{◌≡◌, []};
 ghost use Rattle.icr_graph.specs.Kinds.{partners_of};
 
-use super::*;
+use icr_graph::*;
 use ir_ids::{BlockId, ContId, FunId, NodeId};
 use lisp_base::Place;
 use std::alloc::{AllocError, Global};

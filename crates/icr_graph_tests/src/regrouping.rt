@@ -1,4 +1,4 @@
-use super::*;
+use icr_graph::*;
 use ir_ids::{BlockId, Id, NodeId};
 use std::alloc::{AllocError, Global};
 use std::test::*;

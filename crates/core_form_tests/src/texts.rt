@@ -1,7 +1,7 @@
 // Trees with their texts, made with ample memory.
-use crate::text::forms_text;
-use crate::{
+use core_form::{
     Binding, Core, Definition, Form, Item, Lambda, Optional, Parameter, TopForm, Variable,
+    forms_text,
 };
 use lisp_base::{
     Heap, NIL, Obj, ObjId, Place, Primitive, SymId, SymKind, SymTab, T, TypeName, TypeSpec, Val,
