@@ -1,5 +1,5 @@
 -- Numbers that are among others, and what is bound round a node with more bound round it.
-use Rattle.std.specs.Prelude.{◌≡◌, ℕ, zero, suc, Bool, true, false, ◌||◌, ◌==◌, nat_le, List, [], ◌∷◌, ◌++◌}
+use Rattle.std.specs.Prelude.{◌≡◌, ℕ, zero, suc, Bool, true, false, ◌&&◌, ◌||◌, ◌==◌, nat_le, List, [], ◌∷◌, ◌++◌}
 use Rattle.std.proofs.Common.{refl, arith}
 use Rattle.std.proofs.lemmas.Bool.Decides.{nat_tests}
 use Rattle.core_form.specs.Facts.{has_number}
@@ -10,6 +10,13 @@ same_number n = grind (arith, nat_tests)
 
 pub less_one : (n m : ℕ) → nat_le (suc n) m ≡ true → nat_le n m ≡ true
 less_one n m h = grind (arith, nat_tests)
+
+pub least : (n : ℕ) → nat_le 0 n ≡ true
+least n = grind (arith, nat_tests)
+
+pub and_both : (a b : Bool) → a ≡ true → b ≡ true → (a && b) ≡ true
+and_both true b h k = k
+and_both false b h k = absurd (cc)
 
 or_left : (a b : Bool) → a ≡ true → (a || b) ≡ true
 or_left true b h = refl

@@ -45,7 +45,7 @@ GivesFunction x e = IsRecursive x → gives_function e ≡ true
 
 -- nothing is said of any other sketch
 not_recursive : (x : Sketch) → (IsRecursive x → ⊥) → (m : Step Core) → Has (GivesFunction x) m
-not_recursive x no m w = weaker (λ (e : Core) (u : World). Unit {0}) (λ (e : Core) (u : World). GivesFunction x e) (m w) (anything (m w)) (λ e u _ is. absurd (no is))
+not_recursive x other m w = weaker (λ (e : Core) (u : World). Unit {0}) (λ (e : Core) (u : World). GivesFunction x e) (m w) (anything (m w)) (λ e u _ is. absurd (other is))
 
 recursive_gives : (fuel levels : ℕ) (sc : Scope) (x : Sketch) → Has (GivesFunction x) (make fuel levels sc x)
 unfolding make expand
@@ -139,15 +139,14 @@ planned_good expand make good makes_good chain sc round v holds =
     then_has (FinePlan round) (GoodCore round) _ _ (plan_fine sc round v holds) (λ p fine. followed_good expand make good makes_good chain sc round p holds fine)
 
 mutual
-  expand_good : (fuel levels : ℕ) → ExpandsGood (expand fuel levels)
   unfolding expand make
+  expand_good : (fuel levels : ℕ) → ExpandsGood (expand fuel levels)
   expand_good zero levels chain sc round v holds = refuse_has (GoodCore round) TooNested sc
   expand_good (suc fuel) levels chain sc round v holds =
       then_has (λ (own : Scope). Holds own round) (GoodCore round) _ _ (look_has (λ (own : Scope). Holds own round) _ (λ w. holds_at w.heap v sc round holds)) (λ own h.
       planned_good (expand fuel levels) (make fuel levels) (λ c s r x k. expand_good fuel levels c s r x k) (λ s r x k fine. make_good fuel levels s r x k fine) chain own round v h)
 
   make_good : (fuel : ℕ) → MakesGood (make fuel)
-  unfolding expand make
   make_good zero levels sc round x holds fine = refuse_has (GoodCore round) TooNested sc
   make_good (suc fuel) levels sc round (form v) holds fine = expand_good fuel levels most_chain sc round v holds
   make_good (suc fuel) levels sc round (leaf l) holds fine = skip_has (GoodCore round) _ _ (pure_has (GoodCore round) (leaf_node l sc.place) (leaf_good round l sc.place fine))

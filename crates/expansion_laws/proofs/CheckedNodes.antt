@@ -23,17 +23,13 @@ use Rattle.expansion.specs.declared.heads.Many.TheVariants.{Sequence, CallingLoc
 use Rattle.expansion.specs.declared.heads.Calling.{Calling}
 use Rattle.expansion.specs.declared.heads.Calling.TheVariants.{Funcalling, Applying, CallingWithValues}
 use Rattle.expansion.specs.Sketches.{leaf_node, Unary, SettingLocal, SettingGlobal, SettingFunction, Testing, Checking, Returning, unary_node, binary_node, many_node, calling_node, Sketch}
-use Rattle.expansion_laws.proofs.Among.{same_number}
+use Rattle.expansion_laws.proofs.Among.{and_both}
 use Rattle.expansion_laws.proofs.CheckedSketches.{FineLeaf, IsRecursive, FineUnary, FineMany, FineCalling}
 
 -- a test that a part passes, and what is given to symbols in it
 pub record Good (test : Bool) (set : List Core) : Type 0 where
   pub passed : test ≡ true
   pub given : All (λ f. gives_function f ≡ true) set
-
-and_both : (a b : Bool) → a ≡ true → b ≡ true → (a && b) ≡ true
-and_both true b h k = k
-and_both false b h k = absurd (cc)
 
 pub nothing_set : (a : Bool) → a ≡ true → Good a []
 nothing_set a h = record { passed = h; given = All-nil (λ (f : Core). gives_function f ≡ true) }

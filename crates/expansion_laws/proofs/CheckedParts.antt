@@ -58,7 +58,7 @@ values_good : (round : checked.Scope) (inner : Sketch → Step Core) → ((x : S
 unfolding values_bound
 values_good round inner good [] = pure_has (GoodBound round []) no_binding (no_binding_good round, refl)
 values_good round inner good (p ∷ ps) =
-    then_has (GoodCore round) (GoodBound round (p ∷ ps)) _ _ (good (tested_for p.0.0.types (form p.1)) (tested_fine round p.0.0.types (form p.1) tt)) (λ e h.
+    then_has (GoodCore round) (GoodBound round (p ∷ ps)) _ _ (good (tested_for p.0.1.types (form p.1)) (tested_fine round p.0.1.types (form p.1) tt)) (λ e h.
     then_has (GoodBound round ps) (GoodBound round (p ∷ ps)) _ _ (values_good round inner good ps) (λ bs k.
     pure_has (GoodBound round (p ∷ ps)) (binding p.0.1 e bs) (binding_good round p.0.1 e bs h k.0, ap (λ (xs : List Parameter). p.0.1 ∷ xs) k.1)))
 

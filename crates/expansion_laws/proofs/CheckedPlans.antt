@@ -17,7 +17,7 @@ use Rattle.expansion.specs.Bindings.{Contents}
 use Rattle.expansion.specs.Forms.{definition, with_proclaimed, global_set, and_name, unless_bound, settings}
 use Rattle.expansion_laws.specs.Planned.{Shaped, without_keys, with_keys, Sketched, function_read, WrittenOtherwise, sum_of_none, product_of_none, all_bits, itself, fold_of, negated, and_one, on_both, read_default, read_stream, read_end, read_all, signalled, tested, CalledGlobal, directly, by_primitive, as_function, Operated, quotes, names_local, names_global, makes_function, sets, chooses, chooses_either, does_nothing, does_one, does_each, binds, binds_in_order, binds_functions, binds_recursive, declares_nothing, declares_one, declares_each, checks, names_block, returns_nil, returns, has_tags, goes, catches, throws, unwinds, calls_with_values, keeps_values, gives_values, calls_value, applies, tests, defines, proclaims, proclaims_value, gives_parameter, gives_constant, declaims, uses_package, Planned, an_integer, a_character, a_constant, a_variable, an_object, local_call, macro_form, operator_form, global_call_of, lambda_let, lambda_called}
 use Rattle.expansion_laws.specs.CheckedTrees.{Holds}
-use Rattle.expansion_laws.proofs.Among.{less_one}
+use Rattle.expansion_laws.proofs.Among.{less_one, least, and_both}
 use Rattle.expansion_laws.proofs.Holding.{found_has, function_known, block_known, tag_known, variable_known}
 use Rattle.expansion_laws.proofs.CheckedSketches.{sketches_length, Fine, FineAll, FineFunction, forms_length, forms_fine, progn_fine, body_fine, primitive_fine, folded_fine, in_order_fine, let_fine, plain_fine, keyed_fine, use_fine, set_fine, settings_fine}
 
@@ -51,7 +51,7 @@ module _ (round : checked.Scope) where
   written_fine vs x few (read_stream s) = (refl, (tt, (tt, (tt, tt))))
   written_fine vs x few (read_end s e) = (refl, (tt, (tt, (tt, tt))))
   written_fine vs x few (read_all s e v) = (refl, (tt, (tt, (tt, tt))))
-  written_fine vs x few (signalled v ys) = (refl, (tt, (primitive_fine round q.List ys (less_one (length ys) most_arguments few), tt)))
+  written_fine vs x few (signalled v ys) = (refl, (tt, (primitive_fine round q.List ys (and_both (nat_le 0 (length ys)) (nat_le (length ys) most_arguments) (least (length ys)) (less_one (length ys) most_arguments few)), tt)))
   written_fine vs x few (tested t v) = (tt, tt)
 
   called_fine : (s : SymId) (vs : List Val) (x : Sketch) → nat_le (length vs) most_arguments ≡ true → CalledGlobal s vs x → Fine round x

@@ -84,13 +84,14 @@ module _ (sc : Scope) (w : World) where
         contents_give (Goal (Ref o)) sc p.1 w (λ c. makes_node (let_sketch c.declared p.0 (body c.forms))) (λ c read.
         lambda_let o l arguments lambda vs p.1 p.0 c is given listed few bindings read)
 
-    lambda_derived : (found : Option Val) → lambda_in w.heap (Ref l) ≡ found → OnGives (Planned sc w (Ref o)) (and_then (only_if sc (is_given found) w) (λ _ u. and_then (given_or BadForm sc (elements u.heap arguments) u) (λ vs t. and_then (few sc vs t) (λ _ r. lambda_call sc (Ref l) vs (lambda_bindings (Ref l) vs r) r))))
+    lambda_derived : (found : Option Val) → lambda_in w.heap (Ref l) ≡ found → OnGives (Planned sc w (Ref o)) (and_then (and_then (and_then (only_if sc (is_given found) w) (λ _ u. gives (elements u.heap arguments) u)) (λ listed u. given_or BadForm sc listed u)) (λ vs t. and_then (and_then (few sc vs t) (λ _ r. gives (lambda_bindings (Ref l) vs r) r)) (lambda_call sc (Ref l) vs)))
     unfolding few only_if pure refuse
     lambda_derived None given = tt
     lambda_derived (Some lambda) given =
-        found_gives (Goal (Ref o)) BadForm sc (elements w.heap arguments) w (λ vs t. and_then (few sc vs t) (λ _ r. lambda_call sc (Ref l) vs (lambda_bindings (Ref l) vs r) r)) (λ vs listed.
-        test_gives (Goal (Ref o)) sc (nat_le (length vs) most_arguments) w (λ r. lambda_call sc (Ref l) vs (lambda_bindings (Ref l) vs r) r) (λ few.
-        lambda_call_derived lambda vs given listed few (lambda_bindings (Ref l) vs w) refl))
+        found_gives (Goal (Ref o)) BadForm sc (elements w.heap arguments) w (λ vs t. and_then (and_then (few sc vs t) (λ _ r. gives (lambda_bindings (Ref l) vs r) r)) (lambda_call sc (Ref l) vs)) (λ vs listed.
+        nested_gives (Goal (Ref o)) (few sc vs w) (λ _ r. gives (lambda_bindings (Ref l) vs r) r) (lambda_call sc (Ref l) vs)
+        (test_gives (Goal (Ref o)) sc (nat_le (length vs) most_arguments) w (λ r. lambda_call sc (Ref l) vs (lambda_bindings (Ref l) vs r) r) (λ few.
+        lambda_call_derived lambda vs given listed few (lambda_bindings (Ref l) vs w) refl)))
 
     lambda_plan_derived : OnGives (Planned sc w (Ref o)) (lambda_plan_of sc (Ref l) arguments w)
     unfolding lambda_plan_of expect look ◌>>=◌ ◌>>◌

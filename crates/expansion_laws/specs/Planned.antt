@@ -1,5 +1,5 @@
 -- What is to be done with a form, as derivations: one rule for each result that there may be, with what holds then. (This project's own.)
-use Rattle.std.specs.Prelude.{◌≡◌, ℕ, Bool, true, false, nat_le, ◌==◌, List, [], ◌∷◌, length, Option, Some, None}
+use Rattle.std.specs.Prelude.{◌≡◌, ℕ, ℤ, Bool, true, false, nat_le, ◌==◌, List, [], ◌∷◌, length, Option, Some, None}
 use Rattle.lisp_base.specs.declared.base_symbols.TheConstants as at
 use Rattle.lisp_base.specs.declared.values.ObjId.{ObjId}
 use Rattle.lisp_base.specs.declared.values.SymId.{SymId}

@@ -2,6 +2,8 @@
 //! laws.
 #![tactic(auto)]
 
+mod checked_trees;
 mod plans;
 
+pub use checked_trees::{symbols_have_functions, trees_are_checked};
 pub use plans::plans_are_derived;
