@@ -140,6 +140,7 @@ planned_good expand make good makes_good chain sc round v holds =
 
 mutual
   unfolding expand make
+
   expand_good : (fuel levels : ℕ) → ExpandsGood (expand fuel levels)
   expand_good zero levels chain sc round v holds = refuse_has (GoodCore round) TooNested sc
   expand_good (suc fuel) levels chain sc round v holds =

@@ -24,7 +24,7 @@ use Rattle.expansion.specs.Forms.{is_tag, tail_of}
 use Rattle.expansion.specs.Expanding.{Bound, with_bound, with_all, with_some, bound_each, bound_some, parameters, parameter_some, Inner, each, bound_initials, values_bound, bounds_of, binding_node, BoundOptional, bound_optionals, defaults, function_size, function_tree, with_definitions, defined, name_in, definition_at, definitions, around_definitions, functions_tree, functions_node, recursive_node, block_node, tags_in, with_tags, items, tagbody_node}
 use Rattle.expansion_laws.specs.Planned.{Sketched}
 use Rattle.expansion_laws.specs.CheckedTrees.{Holds}
-use Rattle.expansion_laws.proofs.Giving.{OnGives, weaker, Has, then_has, after_has, skip_has, pure_has, look_has, expect_has}
+use Rattle.expansion_laws.proofs.Giving.{OnGives, weaker, Has, then_has, after_has, skip_has, pure_has, look_has}
 use Rattle.expansion_laws.proofs.FunctionPlans.{function_gives}
 use Rattle.expansion_laws.proofs.Among.{Among, first_there, among_left, among_right, among_both, Wider, wider_variables, wider_in, wider_functions, wider_block, wider_tags}
 use Rattle.expansion_laws.proofs.Holding.{holds_wider, holds_at, holds_bound, holds_all, holds_some, holds_function, holds_block, counted, holds_definitions, tags_counted, holds_tags}
@@ -105,9 +105,10 @@ defaults_good inner good (o ∷ os) sc round before holds =
     let more : List ℕ = before ++ optional_numbers o.bound.1 (parameter_some o.supplied) in
     then_has (GoodCore (with_variables before round)) (GoodDefaults round before) _ _ (good sc (with_variables before round) o.default holds) (λ e h.
     then_has (GoodDefaults round more) (GoodDefaults round before) _ _ (defaults_good inner good os (with_some (with_bound sc o.bound) o.supplied) round more (holds_optional o sc round before holds)) (λ found k.
-    pure_has (GoodDefaults round before) (optional o.bound.1 e (parameter_some o.supplied) found.0, found.1)
-    (optional_good round before o.bound.1 e (parameter_some o.supplied) found.0 h k.0,
-    subst (λ (ns : List ℕ). Holds found.1 (with_variables ns round)) (append_assoc before (optional_numbers o.bound.1 (parameter_some o.supplied)) (optionals_numbers found.0)) k.1)))
+    pure_has (GoodDefaults round before) (optional o.bound.1 e (parameter_some o.supplied) found.0, found.1) (
+      optional_good round before o.bound.1 e (parameter_some o.supplied) found.0 h k.0,
+      subst (λ (ns : List ℕ). Holds found.1 (with_variables ns round)) (append_assoc before (optional_numbers o.bound.1 (parameter_some o.supplied)) (optionals_numbers found.0)) k.1,
+    )))
 
 module _ (inner : Inner) (makes_good : MakesGood inner) where
   -- the body, within all parameters

@@ -45,9 +45,6 @@ test_gives Q sc false w k f = tt
 abbrev pub Has : {A : Type 0} → (A → Type 0) → Step A → Type 0
 Has P m = (w : World) → OnGives (λ x u. P x) (m w)
 
-abbrev pub Anything : {A : Type 0} → A → Type 0
-Anything x = Unit {0}
-
 pub anything : {A : Type 0} (a : Answer A) → OnGives (λ (x : A) (u : World). Unit {0}) a
 anything (gives x w) = tt
 anything (refused kind place) = tt
@@ -77,11 +74,6 @@ pure_has P x h w = h
 pub look_has : {A : Type 0} (P : A → Type 0) (f : World → A) → ((w : World) → P (f w)) → Has P (look f)
 unfolding look
 look_has P f h w = h w
-
-pub expect_has : {A : Type 0} (P : A → Type 0) (sc : Scope) (found : Option A) → ((x : A) → P x) → Has P (expect sc found)
-unfolding expect given_or refuse pure
-expect_has P sc None h w = tt
-expect_has P sc (Some x) h w = h x
 
 pub refuse_has : {A : Type 0} (P : A → Type 0) (kind : ExpandKind) (sc : Scope) → Has P (refuse kind sc)
 unfolding refuse
