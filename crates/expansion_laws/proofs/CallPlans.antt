@@ -1,5 +1,5 @@
 -- Calls of global functions, as derivations.
-use Rattle.std.specs.Prelude.{◌≡◌, ℕ, Bool, true, false, if◌then◌else◌, List, [], ◌∷◌, length, Option, Some, None}
+use Rattle.std.specs.Prelude.{◌≡◌, Bool, true, false, if◌then◌else◌, List, [], ◌∷◌, length, Option, Some, None}
 use Rattle.std.specs.Option.{option_and_then}
 use Rattle.std.proofs.Common.{refl}
 use Rattle.lisp_base.specs.declared.values.SymId.{SymId}
@@ -11,7 +11,7 @@ use Rattle.lisp_base.specs.declared.types.TypeName.TheVariants as name
 use Rattle.lisp_base.specs.PrimNames.{prim_at}
 use Rattle.lisp_base.specs.Sort.{number_of}
 use Rattle.core_form.specs.Checked.{operation_takes}
-use Rattle.core_form.specs.Primitives.{row_of, most_arguments}
+use Rattle.core_form.specs.Primitives.{most_arguments}
 use Rattle.expansion.specs.declared.operator.Direct.{Direct}
 use Rattle.expansion.specs.declared.operator.Direct.TheVariants as direct
 use Rattle.expansion.specs.Operators.{direct_of}

@@ -1,35 +1,35 @@
 -- Expansion gives checked trees, in which only functions are given to symbols.
-use Rattle.std.specs.Prelude.{◌≡◌, ℕ, zero, suc, Bool, true, List, [], ◌∷◌, ◌++◌, All}
+use Rattle.std.specs.Prelude.{◌≡◌, ℕ, zero, suc, true, List, [], ◌∷◌, ◌++◌, All}
 use Rattle.std.proofs.Common.{refl, sym, subst}
 use Rattle.std.proofs.lemmas.List.Elements.{All-nil, All-cons, All-weaker}
 use Rattle.lisp_base.specs.declared.values.SymId.{SymId}
 use Rattle.lisp_base.specs.declared.values.Val.{Val}
 use Rattle.core_form.specs.Tree as tree
 use Rattle.core_form.specs.Tree.{Core, Cores, cores_length, define, no_definition}
-use Rattle.core_form.specs.Facts.{has_number, at_nodes}
+use Rattle.core_form.specs.Facts.{has_number}
 use Rattle.core_form.specs.Checked as checked
 use Rattle.core_form.specs.Checked.{is_checked}
-use Rattle.core_form.specs.Lawful.{gives_function, function_set}
+use Rattle.core_form.specs.Lawful.{gives_function}
 use Rattle.expansion.specs.declared.heads.Binary.{Binary}
 use Rattle.expansion.specs.declared.heads.Many.{Many}
 use Rattle.expansion.specs.declared.heads.Calling.{Calling}
 use Rattle.expansion.specs.declared.heads.Target.{Target}
 use Rattle.expansion.specs.declared.heads.Target.TheVariants.{Lexical, Global}
 use Rattle.expansion.specs.declared.kind.ExpandKind.TheVariants.{TooNested}
-use Rattle.expansion.specs.Scopes.{Scope, at_form, declared_in}
-use Rattle.expansion.specs.Steps.{World, Step, gives, ◌>>=◌, ◌>>◌, pure, look, begin, inside, most_chain}
+use Rattle.expansion.specs.Scopes.{Scope, declared_in}
+use Rattle.expansion.specs.Steps.{World, Step, inside, most_chain}
 use Rattle.expansion.specs.Sketches.{Unary, Sketches, Sketch, form, leaf, one, two, choice, many, calling, bind, assign, function, functions, recursive, block, tagbody, within, leaf_node, unary_node, binary_node, many_node, calling_node, Function, Plan, instead, declared_around, makes}
-use Rattle.expansion.specs.Forms.{plan_of, set_variable}
+use Rattle.expansion.specs.Forms.{plan_of}
 use Rattle.expansion.specs.Expanding.{Inner, recursive_node, go_on, followed, planned, expand, make}
 use Rattle.expansion_laws.specs.CheckedTrees.{Means, Holds, TreesAreChecked, SymbolsHaveFunctions}
 use Rattle.expansion_laws.specs.Planned.{Planned}
-use Rattle.expansion_laws.proofs.Giving.{OnGives, given_has, weaker, anything, given_both, Has, then_has, after_has, skip_has, pure_has, look_has, refuse_has}
+use Rattle.expansion_laws.proofs.Giving.{given_has, weaker, anything, given_both, Has, then_has, after_has, skip_has, pure_has, look_has, refuse_has}
 use Rattle.expansion_laws.proofs.Planning.{plan_derived}
 use Rattle.expansion_laws.proofs.Among.{first_there, later_there, among_right}
 use Rattle.expansion_laws.proofs.Holding.{holds_at, holds_declared}
 use Rattle.expansion_laws.proofs.CheckedSketches.{sketches_length, IsRecursive, FineUnary, FineMany, FineCalling, Fine, FineAll, FineFunction, set_variable_fine}
 use Rattle.expansion_laws.proofs.CheckedPlans.{FinePlan, planned_fine}
-use Rattle.expansion_laws.proofs.CheckedNodes.{Good, GoodCore, GoodCores, GoodLambda, leaf_good, unary_good, binary_good, choice_good, many_good, calling_good, function_good}
+use Rattle.expansion_laws.proofs.CheckedNodes.{GoodCore, GoodLambda, leaf_good, unary_good, binary_good, choice_good, many_good, calling_good, function_good}
 use Rattle.expansion_laws.proofs.CheckedParts.{MakesGood, GoodRow, each_good, binding_node_good, function_tree_good, functions_node_good, recursive_node_good, block_node_good, tagbody_node_good}
 
 -- ---- the function that a definition gives to its name

@@ -1,15 +1,14 @@
 -- Nodes of checked parts in which only functions are given to symbols.
-use Rattle.std.specs.Prelude.{◌≡◌, ℕ, ◌+◌, Bool, true, false, ◌&&◌, nat_le, List, [], ◌∷◌, ◌++◌, All, Option, None}
+use Rattle.std.specs.Prelude.{◌≡◌, ℕ, Bool, true, ◌&&◌, nat_le, List, [], ◌++◌, All, Option, None}
 use Rattle.std.proofs.Common.{refl, sym, subst}
 use Rattle.std.proofs.lemmas.List.Elements.{All-nil, All-cons, All-append}
-use Rattle.lisp_base.specs.declared.primitives.Primitive.{Primitive as Operation}
 use Rattle.lisp_base.specs.declared.values.Place.{Place}
 use Rattle.lisp_base.specs.declared.values.Place.TheVariants.{File}
 use Rattle.lisp_base.specs.declared.values.SymId.{SymId}
 use Rattle.lisp_base.specs.declared.values.Val.{Val}
 use Rattle.core_form.specs.Tree as tree
 use Rattle.core_form.specs.Tree.{Core, Cores, no_core, core, cores_length, Bindings, no_binding, binding, Optionals, no_optional, optional, Lambda, lambda, Definitions, no_definition, define, Items, no_item, tag, step, Parameter}
-use Rattle.core_form.specs.Facts.{FunctionText, gather, gather_all, gather_bindings, gather_optionals, gather_lambda, gather_definitions, gather_items, no_function, has_number, binding_parameters, if_given}
+use Rattle.core_form.specs.Facts.{gather, gather_all, gather_bindings, gather_optionals, gather_lambda, gather_definitions, gather_items, no_function, has_number, binding_parameters}
 use Rattle.core_form.specs.Checked as checked
 use Rattle.core_form.specs.Checked.{is_checked, are_checked, values_checked, lambda_checked, optionals_checked, definitions_checked, items_checked, operation_takes, parameter_numbers, function_numbers, tag_numbers, optional_numbers, in_body, with_variables, with_functions, with_block, with_tags}
 use Rattle.core_form.specs.Primitives.{most_values, most_arguments}

@@ -1,36 +1,33 @@
 -- The parts of nodes are checked where what makes a tree of a part gives checked trees.
-use Rattle.std.specs.Prelude.{◌≡◌, ℕ, suc, ◌+◌, Bool, true, false, if◌then◌else◌, List, [], ◌∷◌, ◌++◌, length, map, Option, Some, None}
-use Rattle.std.specs.Option.{option_and_then}
-use Rattle.std.proofs.Common.{refl, ap, sym, subst, ◌∙◌}
+use Rattle.std.specs.Prelude.{◌≡◌, ℕ, suc, ◌+◌, Bool, true, false, if◌then◌else◌, List, [], ◌∷◌, ◌++◌, Option, Some}
+use Rattle.std.proofs.Common.{refl, ap, subst}
 use mathlib.Core.List.{append_assoc}
 use Rattle.lisp_base.specs.declared.values.Place.{Place}
 use Rattle.lisp_base.specs.declared.values.SymId.{SymId}
 use Rattle.lisp_base.specs.declared.values.Val.{Val}
-use Rattle.lisp_forms.specs.Conses.{elements}
 use Rattle.core_form.specs.Tree as tree
 use Rattle.core_form.specs.Tree.{Core, Cores, no_core, core, cores_length, Bindings, no_binding, binding, Optionals, no_optional, optional, Lambda, lambda, Definitions, no_definition, define, Items, no_item, tag, step, Parameter}
-use Rattle.core_form.specs.Facts.{has_number, parameter_number, binding_parameters, if_given}
+use Rattle.core_form.specs.Facts.{parameter_number, binding_parameters, if_given}
 use Rattle.core_form.specs.Checked as checked
 use Rattle.core_form.specs.Checked.{parameter_numbers, function_numbers, tag_numbers, optional_numbers, optionals_numbers, in_body, with_variables, with_functions, with_block, with_tags as round_tags}
-use Rattle.core_form.specs.Lawful.{gives_function}
 use Rattle.expansion.specs.declared.heads.Leaf.TheVariants.{LocalFunction}
 use Rattle.expansion.specs.declared.heads.Reach.{Reach}
 use Rattle.expansion.specs.declared.heads.Reach.TheVariants.{ForBody, ForAll}
-use Rattle.expansion.specs.Scopes.{Scope, at_form, with_function, with_block as block_within}
-use Rattle.expansion.specs.Steps.{World, Step, ◌>>=◌, ◌>>◌, pure, expect, look, begin, inside, take_numbers, take_function}
-use Rattle.expansion.specs.Sketches.{Binder, Initial, Optional', Sketch, form, recursive, Sketches, no_sketch, sketch, Function, function_of, checked as tested_for}
+use Rattle.expansion.specs.Scopes.{Scope, with_function, with_block as block_within}
+use Rattle.expansion.specs.Steps.{World, Step, ◌>>=◌, pure, inside}
+use Rattle.expansion.specs.Sketches.{Initial, Sketch, form, Sketches, no_sketch, sketch, Function, function_of, checked as tested_for}
 use Rattle.expansion.specs.Bindings.{function_sketch}
-use Rattle.expansion.specs.Forms.{is_tag, tail_of}
-use Rattle.expansion.specs.Expanding.{Bound, with_bound, with_all, with_some, bound_each, bound_some, parameters, parameter_some, Inner, each, bound_initials, values_bound, bounds_of, binding_node, BoundOptional, bound_optionals, defaults, function_size, function_tree, with_definitions, defined, name_in, definition_at, definitions, around_definitions, functions_tree, functions_node, recursive_node, block_node, tags_in, with_tags, items, tagbody_node}
+use Rattle.expansion.specs.Forms.{is_tag}
+use Rattle.expansion.specs.Expanding.{Bound, with_bound, with_all, with_some, parameters, parameter_some, Inner, each, values_bound, bounds_of, binding_node, BoundOptional, defaults, function_tree, defined, definition_at, definitions, around_definitions, functions_tree, functions_node, recursive_node, block_node, with_tags, items, tagbody_node}
 use Rattle.expansion_laws.specs.Planned.{Sketched}
 use Rattle.expansion_laws.specs.CheckedTrees.{Holds}
-use Rattle.expansion_laws.proofs.Giving.{OnGives, weaker, Has, then_has, after_has, skip_has, pure_has, look_has}
+use Rattle.expansion_laws.proofs.Giving.{weaker, Has, then_has, after_has, skip_has, pure_has, look_has}
 use Rattle.expansion_laws.proofs.FunctionPlans.{function_gives}
-use Rattle.expansion_laws.proofs.Among.{Among, first_there, among_left, among_right, among_both, Wider, wider_variables, wider_in, wider_functions, wider_block, wider_tags}
+use Rattle.expansion_laws.proofs.Among.{Among, first_there, among_left, among_right, Wider, wider_variables, wider_in, wider_functions, wider_block, wider_tags}
 use Rattle.expansion_laws.proofs.Holding.{holds_wider, holds_at, holds_bound, holds_all, holds_some, holds_function, holds_block, counted, holds_definitions, tags_counted, holds_tags}
 use Rattle.expansion_laws.proofs.CheckedSketches.{sketches_length, Fine, FineAll, FineFunction, fine_wider, function_wider, tested_fine}
 use Rattle.expansion_laws.proofs.CheckedPlans.{function_fine}
-use Rattle.expansion_laws.proofs.CheckedNodes.{Good, GoodCore, GoodCores, GoodValues, GoodLambda, GoodOptionals, GoodDefinitions, GoodItems, nothing_set, no_core_good, core_good, no_binding_good, binding_good, no_optional_good, no_definition_good, leaf_good, no_item_good, step_good, tag_good, define_good, function_good, optional_good, lambda_good, let_good, labels_good, block_good, tagbody_good}
+use Rattle.expansion_laws.proofs.CheckedNodes.{GoodCore, GoodCores, GoodValues, GoodLambda, GoodOptionals, GoodDefinitions, GoodItems, no_core_good, core_good, no_binding_good, binding_good, no_optional_good, no_definition_good, leaf_good, no_item_good, step_good, tag_good, define_good, optional_good, lambda_good, let_good, labels_good, block_good, tagbody_good}
 
 -- what makes a tree of a part gives checked trees
 abbrev pub MakesGood : Inner → Type 0

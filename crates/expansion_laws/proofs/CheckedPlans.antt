@@ -1,12 +1,11 @@
 -- What is to be done with a form has a sketch whose tree is checked.
-use Rattle.std.specs.Prelude.{◌≡◌, ℕ, Bool, true, false, nat_le, List, [], ◌∷◌, length, Option, Some, None}
+use Rattle.std.specs.Prelude.{◌≡◌, ℕ, true, nat_le, List, [], ◌∷◌, length, Option, Some, None}
 use Rattle.std.proofs.Common.{refl, sym, subst}
 use Rattle.lisp_base.specs.declared.values.SymId.{SymId}
 use Rattle.lisp_base.specs.declared.values.Val.{Val}
-use Rattle.lisp_base.specs.declared.values.Val.TheVariants.{Sym}
 use Rattle.lisp_base.specs.declared.primitives.Primitive.TheVariants as q
 use Rattle.core_form.specs.Checked as checked
-use Rattle.core_form.specs.Primitives.{row_of, most_values, most_arguments}
+use Rattle.core_form.specs.Primitives.{most_values, most_arguments}
 use Rattle.lambda_lists.specs.LambdaLists.{LambdaList}
 use Rattle.expansion.specs.declared.heads.Target.TheVariants.{Global}
 use Rattle.expansion.specs.declared.operator.Operator.{Operator}
@@ -14,7 +13,7 @@ use Rattle.expansion.specs.Scopes.{Scope, variable_at}
 use Rattle.expansion.specs.Steps.{World}
 use Rattle.expansion.specs.Sketches.{Sketch, form, Function, sketches, forms, body, Plan, instead, declared_around, makes}
 use Rattle.expansion.specs.Bindings.{Contents}
-use Rattle.expansion.specs.Forms.{definition, with_proclaimed, global_set, and_name, unless_bound, settings}
+use Rattle.expansion.specs.Forms.{definition, with_proclaimed, global_set, unless_bound, settings}
 use Rattle.expansion_laws.specs.Planned.{Shaped, without_keys, with_keys, Sketched, function_read, WrittenOtherwise, sum_of_none, product_of_none, all_bits, itself, fold_of, negated, and_one, on_both, read_default, read_stream, read_end, read_all, signalled, tested, CalledGlobal, directly, by_primitive, as_function, Operated, quotes, names_local, names_global, makes_function, sets, chooses, chooses_either, does_nothing, does_one, does_each, binds, binds_in_order, binds_functions, binds_recursive, declares_nothing, declares_one, declares_each, checks, names_block, returns_nil, returns, has_tags, goes, catches, throws, unwinds, calls_with_values, keeps_values, gives_values, calls_value, applies, tests, defines, proclaims, proclaims_value, gives_parameter, gives_constant, declaims, uses_package, Planned, an_integer, a_character, a_constant, a_variable, an_object, local_call, macro_form, operator_form, global_call_of, lambda_let, lambda_called}
 use Rattle.expansion_laws.specs.CheckedTrees.{Holds}
 use Rattle.expansion_laws.proofs.Among.{less_one, least, and_both}

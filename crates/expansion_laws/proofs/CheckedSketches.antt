@@ -1,13 +1,11 @@
 -- Sketches whose trees are checked: the numbers that they use are bound round them, and operators have as many forms as they may.
-use Rattle.std.specs.Prelude.{◌≡◌, ℕ, ◌+◌, Bool, true, false, nat_le, List, [], ◌∷◌, ◌++◌, length, map, Option, Some, None}
+use Rattle.std.specs.Prelude.{◌≡◌, ℕ, ◌+◌, true, nat_le, List, [], ◌∷◌, ◌++◌, length, Option, Some, None}
 use Rattle.std.specs.Option.{option_map, option_and_then}
 use Rattle.std.proofs.Common.{refl, ap, sym, subst, ◌∙◌}
 use Rattle.std.proofs.Math.Numerals.{one-add}
 use Rattle.lisp_base.specs.declared.primitives.Primitive.{Primitive as Operation}
-use Rattle.lisp_base.specs.declared.primitives.Primitive.TheVariants as q
 use Rattle.lisp_base.specs.declared.values.SymId.{SymId}
 use Rattle.lisp_base.specs.declared.values.Val.{Val}
-use Rattle.lisp_base.specs.declared.values.Val.TheVariants.{Sym}
 use Rattle.lisp_base.specs.Spec.{Spec}
 use Rattle.lisp_base.specs.Tables.{Table}
 use Rattle.core_form.specs.Facts.{has_number}
@@ -31,7 +29,7 @@ use Rattle.expansion.specs.Bindings.{Contents, let_sketch, let_in_order, nested,
 use Rattle.expansion.specs.Calls.{folded}
 use Rattle.expansion.specs.Forms.{variable_in, reference, use_of, setting, proclaimed, set_target, set_variable, settings}
 use Rattle.expansion_laws.specs.CheckedTrees.{Means, Holds}
-use Rattle.expansion_laws.proofs.Among.{Among, Wider}
+use Rattle.expansion_laws.proofs.Among.{Wider}
 use Rattle.expansion_laws.proofs.Holding.{OnFound, variable_known}
 
 abbrev pub sketches_length : Sketches → ℕ

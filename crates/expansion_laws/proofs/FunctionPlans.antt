@@ -5,16 +5,15 @@ use Rattle.lisp_base.specs.declared.values.SymId.{SymId}
 use Rattle.lisp_base.specs.declared.values.Val.{Val}
 use Rattle.lisp_base.specs.Tables.{Table, Object, made_fresh}
 use Rattle.lisp_forms.specs.Conses.{elements}
-use Rattle.declarations.specs.Bodies.{Body, body_of}
+use Rattle.declarations.specs.Bodies.{body_of}
 use Rattle.declarations.specs.Declarations.{Declared, Reading, declared, bad_form, bad_type, bad_policy, read_declarations}
 use Rattle.lambda_lists.specs.LambdaLists.{Default, LambdaList, lambda_list, KeyForms, key_forms}
 use Rattle.expansion.specs.declared.kind.ExpandKind.TheVariants.{BadForm}
 use Rattle.expansion.specs.Scopes.{Scope}
-use Rattle.expansion.specs.Steps.{World, Answer, Step, and_then, ◌>>=◌, ◌>>◌, pure, refuse, expect, given_or, look}
-use Rattle.expansion.specs.Sketches.{Function}
-use Rattle.expansion.specs.Bindings.{Contents, contents, declared_or, read_body, contents_of, with_table, with_stores, plain_function, keyed_function, fresh_by, fresh_symbol, rest_or_fresh, keys_by, make_keys, with_keys, function_with, function_from, function_sketch}
+use Rattle.expansion.specs.Steps.{World, Step, and_then, ◌>>=◌, pure, refuse, expect, look}
+use Rattle.expansion.specs.Bindings.{Contents, contents, declared_or, read_body, contents_of, with_table, with_stores, keyed_function, fresh_by, fresh_symbol, rest_or_fresh, keys_by, make_keys, with_keys, function_with, function_from, function_sketch}
 use Rattle.expansion_laws.specs.Planned.{ReadBody, RestVariable, own_rest, fresh_rest, Shaped, without_keys, with_keys as shaped_with_keys, Sketched, function_read}
-use Rattle.expansion_laws.proofs.Giving.{OnGives, weaker, then_gives, found_gives}
+use Rattle.expansion_laws.proofs.Giving.{OnGives, weaker, found_gives}
 
 -- ---- bodies
 

@@ -3,7 +3,7 @@ use Rattle.std.specs.Prelude.{◌≡◌, Bool, true, false, Option, Some, None}
 use Rattle.std.proofs.Common.{refl, subst}
 use Rattle.expansion.specs.declared.kind.ExpandKind.{ExpandKind}
 use Rattle.expansion.specs.Scopes.{Scope}
-use Rattle.expansion.specs.Steps.{World, Answer, gives, refused, Step, and_then, ◌>>=◌, ◌>>◌, refuse, pure, expect, given_or, only_if, look}
+use Rattle.expansion.specs.Steps.{World, Answer, gives, refused, Step, and_then, ◌>>=◌, ◌>>◌, refuse, pure, given_or, only_if, look}
 
 -- a result has this, with the world after it; a refusal owes nothing
 abbrev pub OnGives : {A : Type 0} → (A → World → Type 0) → Answer A → Type 0

@@ -1,7 +1,6 @@
 -- What names mean in a scope is bound round a node.
-use Rattle.std.specs.Prelude.{◌≡◌, ℕ, suc, Bool, true, false, if◌then◌else◌, List, [], ◌∷◌, ◌++◌, length, All, fold, Option, Some, None}
-use Rattle.std.specs.Option.{option_map}
-use Rattle.std.proofs.Common.{refl, subst}
+use Rattle.std.specs.Prelude.{◌≡◌, ℕ, suc, Bool, true, false, if◌then◌else◌, List, [], ◌∷◌, All, fold, Option, Some, None}
+use Rattle.std.proofs.Common.{subst}
 use Rattle.std.proofs.lemmas.List.Elements.{All-head, All-tail, All-push, All-weaker}
 use Rattle.lisp_base.specs.declared.values.SymId.{SymId}
 use Rattle.lisp_base.specs.declared.values.Val.{Val}
@@ -10,7 +9,6 @@ use Rattle.lisp_base.specs.Tables.{Object}
 use Rattle.declarations.specs.Declarations.{Typed, Declared}
 use Rattle.core_form.specs.declared.tree.Variable.{Variable}
 use Rattle.core_form.specs.declared.tree.Variable.TheVariants as variable
-use Rattle.core_form.specs.Tree.{Parameter}
 use Rattle.core_form.specs.Facts.{has_number, lexical_number, parameter_number, if_given}
 use Rattle.core_form.specs.Checked as checked
 use Rattle.core_form.specs.Checked.{parameter_numbers}
@@ -20,7 +18,7 @@ use Rattle.expansion.specs.Scopes.{Scope, Check, value_or, at_form, later, last_
 use Rattle.expansion.specs.Forms.{is_tag}
 use Rattle.expansion.specs.Expanding.{Bound, target_of, new_checks, with_bound, with_all, with_some, parameters, parameter_some, definition_name, with_named, with_definitions, with_tags}
 use Rattle.expansion_laws.specs.CheckedTrees.{Means, Holds}
-use Rattle.expansion_laws.proofs.Among.{Among, first_there, later_there, among_left, among_right, among_tail, Wider}
+use Rattle.expansion_laws.proofs.Among.{Among, first_there, among_left, among_right, among_tail, Wider}
 
 -- ---- what is found
 

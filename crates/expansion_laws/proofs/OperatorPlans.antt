@@ -1,16 +1,15 @@
 -- Forms of operators, as derivations.
-use Rattle.std.specs.Prelude.{◌≡◌, ℕ, Bool, true, false, nat_le, List, [], ◌∷◌, length, Option, Some, None}
+use Rattle.std.specs.Prelude.{◌≡◌, ℕ, nat_le, List, [], ◌∷◌, length, Option, Some, None}
 use Rattle.std.proofs.Common.{refl}
 use Rattle.lisp_base.specs.declared.values.ObjId.{ObjId}
 use Rattle.lisp_base.specs.declared.values.SymId.{SymId}
 use Rattle.lisp_base.specs.declared.values.Val.{Val}
 use Rattle.lisp_base.specs.declared.values.Val.TheVariants.{Int, Char, Sym, Ref}
 use Rattle.lisp_base.specs.Sort.{nil}
-use Rattle.lisp_base.specs.Spec.{Spec}
 use Rattle.lisp_forms.specs.Conses.{elements}
 use Rattle.type_spec.specs.Parsing.{specifier}
 use Rattle.core_form.specs.Primitives.{most_values, most_arguments}
-use Rattle.declarations.specs.Declarations.{Declared, read_specifiers}
+use Rattle.declarations.specs.Declarations.{read_specifiers}
 use Rattle.expansion.specs.declared.kind.ExpandKind.TheVariants.{BadForm, BadType}
 use Rattle.expansion.specs.declared.heads.Reach.{Reach}
 use Rattle.expansion.specs.declared.heads.Reach.TheVariants.{ForBody, ForAll}
@@ -20,8 +19,8 @@ use Rattle.expansion.specs.declared.heads.Leaf.TheVariants.{GoTo}
 use Rattle.expansion.specs.declared.operator.Operator.{Operator}
 use Rattle.expansion.specs.declared.operator.Operator.TheVariants as op
 use Rattle.expansion.specs.Scopes.{Scope, function_at, block_at, tag_at}
-use Rattle.expansion.specs.Steps.{World, Answer, gives, Step, and_then, ◌>>=◌, ◌>>◌, pure, refuse, expect, given_or, only_if, look, change}
-use Rattle.expansion.specs.Sketches.{Sketch, form, leaf, one, many, calling, function, functions, block, tagbody, within, Function, sketches, forms, constant, progn, body, Plan, instead, declared_around, makes, Testing, Checking, Returning}
+use Rattle.expansion.specs.Steps.{World, Answer, gives, and_then, ◌>>=◌, ◌>>◌, pure, refuse, expect, given_or, look, change}
+use Rattle.expansion.specs.Sketches.{form, leaf, one, many, calling, function, functions, tagbody, within, sketches, forms, constant, progn, body, Plan, makes, Testing, Checking, Returning}
 use Rattle.expansion.specs.Bindings.{Contents, contents_of, let_sketch, let_in_order, others, names, function_sketch}
 use Rattle.expansion.specs.Calls.{few}
 use Rattle.expansion.specs.Forms.{makes_node, quote_plan, lambda_in, named_function, lambda_plan, function_plan, settings, setq_plan, if_plan, progn_plan, bindings_in, let_plan, let_in_order_plan, functions_plan, locally_forms, locally_plan, type_in, the_plan, block_plan, return_plan, return_from_plan, are_items, tagbody_plan, go_plan, catch_plan, throw_plan, unwind_plan, values_call_plan, keeping_plan, values_plan, funcall_plan, apply_plan, quoted_in, typep_plan, definable, definition, tail_of, defun_plan, variable_in, value_among, global_set, and_name, unless_bound, with_proclaimed, defvar_plan, defparameter_plan, with_declaimed, declaim_plan, names_package, name_written, in_package_plan, operator_plan}

@@ -1,5 +1,5 @@
 -- What is to be done with a form is derived.
-use Rattle.std.specs.Prelude.{◌≡◌, ℕ, Bool, true, false, nat_le, ◌==◌, if◌then◌else◌, List, [], ◌∷◌, length, Option, Some, None}
+use Rattle.std.specs.Prelude.{◌≡◌, ℕ, Bool, true, false, nat_le, ◌==◌, if◌then◌else◌, List, length, Option, Some, None}
 use Rattle.std.proofs.Common.{refl}
 use Rattle.lisp_base.specs.declared.base_symbols.TheConstants as at
 use Rattle.lisp_base.specs.declared.values.ObjId.{ObjId}
@@ -11,17 +11,16 @@ use Rattle.lisp_forms.specs.Conses.{cons_at, elements}
 use Rattle.core_form.specs.Primitives.{most_arguments}
 use Rattle.std_macros.specs.Expanding.{Expanded, gives as makes_form, bad, full, expanded_form, macro_of_form}
 use Rattle.expansion.specs.declared.kind.ExpandKind.TheVariants.{BadForm, UnknownOperator}
-use Rattle.expansion.specs.declared.heads.Calling.TheVariants.{Funcalling}
 use Rattle.expansion.specs.declared.operator.Operator.{Operator}
 use Rattle.expansion.specs.Operators.{operator_of, is_left_out}
-use Rattle.expansion.specs.Scopes.{Scope, function_at, variable_at}
-use Rattle.expansion.specs.Steps.{World, Answer, gives, Step, and_then, ◌>>=◌, ◌>>◌, pure, refuse, expect, given_or, only_if, look}
-use Rattle.expansion.specs.Sketches.{Sketch, form, calling, sketches, forms, body, Plan, makes}
-use Rattle.expansion.specs.Bindings.{Contents, contents_of, let_sketch}
+use Rattle.expansion.specs.Scopes.{Scope, function_at}
+use Rattle.expansion.specs.Steps.{World, gives, and_then, ◌>>=◌, ◌>>◌, pure, refuse, expect, given_or, only_if, look}
+use Rattle.expansion.specs.Sketches.{Sketch, body, Plan, makes}
+use Rattle.expansion.specs.Bindings.{let_sketch}
 use Rattle.expansion.specs.Calls.{few, global_call, calls_local}
 use Rattle.expansion.specs.Forms.{makes_node, is_constant_symbol, lambda_in, operator_plan, operated, expansion_or, macro_plan, called, global_plan, is_macro, named_plan, lambda_bindings, lambda_call, is_given, lambda_plan_of, symbol_plan, list_plan, plan_of}
-use Rattle.expansion_laws.specs.Planned.{Planned, Operated, ReadBody, an_integer, a_character, a_constant, a_variable, an_object, local_call, macro_form, operator_form, global_call_of, lambda_let, lambda_called}
-use Rattle.expansion_laws.proofs.Giving.{OnGives, given_has, weaker, then_gives, found_gives, nested_gives, test_gives}
+use Rattle.expansion_laws.specs.Planned.{Planned, Operated, an_integer, a_character, a_constant, a_variable, an_object, local_call, macro_form, operator_form, global_call_of, lambda_let, lambda_called}
+use Rattle.expansion_laws.proofs.Giving.{OnGives, given_has, weaker, found_gives, nested_gives, test_gives}
 use Rattle.expansion_laws.proofs.FunctionPlans.{contents_give}
 use Rattle.expansion_laws.proofs.OperatorPlans.{operator_derived}
 use Rattle.expansion_laws.proofs.CallPlans.{called_global}

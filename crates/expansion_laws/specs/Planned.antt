@@ -1,5 +1,5 @@
 -- What is to be done with a form, as derivations: one rule for each result that there may be, with what holds then. (This project's own.)
-use Rattle.std.specs.Prelude.{◌≡◌, ℕ, ℤ, Bool, true, false, nat_le, ◌==◌, List, [], ◌∷◌, length, Option, Some, None}
+use Rattle.std.specs.Prelude.{◌≡◌, ℕ, ℤ, true, false, nat_le, ◌==◌, List, [], ◌∷◌, length, Option, Some, None}
 use Rattle.lisp_base.specs.declared.base_symbols.TheConstants as at
 use Rattle.lisp_base.specs.declared.values.ObjId.{ObjId}
 use Rattle.lisp_base.specs.declared.values.SymId.{SymId}
@@ -21,8 +21,6 @@ use Rattle.std_macros.specs.Expanding.{gives as makes_form, expanded_form, macro
 use Rattle.declarations.specs.Bodies.{body_of}
 use Rattle.declarations.specs.Declarations.{Declared, declared, read_declarations, read_specifiers}
 use Rattle.lambda_lists.specs.LambdaLists.{Default, LambdaList, lambda_list, KeyForms, key_forms}
-use Rattle.expansion.specs.declared.heads.Target.{Target}
-use Rattle.expansion.specs.declared.heads.Target.TheVariants.{Global}
 use Rattle.expansion.specs.declared.heads.Leaf.TheVariants.{LocalFunction, GlobalFunction, GoTo}
 use Rattle.expansion.specs.declared.heads.Binary.TheVariants.{Catching, Throwing, Unwinding, KeepingValues}
 use Rattle.expansion.specs.declared.heads.Many.TheVariants.{GivingValues}
@@ -37,7 +35,7 @@ use Rattle.expansion.specs.Steps.{World, gives}
 use Rattle.expansion.specs.Sketches.{Sketch, form, leaf, one, two, choice, many, calling, function, functions, block, tagbody, within, Function, sketches, forms, constant, progn, body, primitive, Plan, instead, declared_around, makes, Testing, Checking, Returning}
 use Rattle.expansion.specs.Bindings.{Contents, let_sketch, let_in_order, others, names, with_table, with_stores, plain_function, keyed_function}
 use Rattle.expansion.specs.Calls.{integer, minus_one, folded, direct_sketch, calls_global, calls_local}
-use Rattle.expansion.specs.Forms.{is_constant_symbol, variable_in, use_of, lambda_in, settings, bindings_in, symbol_in, are_items, quoted_in, definable, definition, tail_of, with_proclaimed, value_among, global_set, and_name, unless_bound, with_declaimed, names_package, name_written, is_macro, lambda_bindings, plan_of}
+use Rattle.expansion.specs.Forms.{is_constant_symbol, variable_in, use_of, lambda_in, settings, bindings_in, are_items, quoted_in, definable, definition, tail_of, with_proclaimed, value_among, global_set, and_name, unless_bound, with_declaimed, names_package, name_written, is_macro, lambda_bindings, plan_of}
 
 -- ---- bodies and functions
 
