@@ -1,0 +1,6 @@
+//! Laws of the trees that forms expand to.
+#![tactic(auto)]
+
+mod made_trees;
+
+pub use made_trees::{trees_are_counted, trees_are_made};

@@ -1,0 +1,16 @@
+//! How trees are made, and what they count. The functions do nothing: a call of one gives its law.
+
+ghost use Rattle.expansion_laws.specs.Counts.{TreesAreCounted};
+ghost use Rattle.expansion_laws.specs.Made.{TreesAreMade};
+
+/// Whatever tree a form expands to is made step by step: each node after what stands before it, its
+/// parts from left to right.
+pub fn trees_are_made()
+    ensures made { TreesAreMade }
+{}
+
+/// A tree that a form expands to has as many nodes as were counted, and no more than a form may have;
+/// what it binds is numbered one after another, and so are its functions.
+pub fn trees_are_counted()
+    ensures counted { TreesAreCounted }
+{}
