@@ -1,6 +1,6 @@
 -- Counts that are made one after another.
 use Rattle.std.specs.Prelude.{◌≡◌, ℕ, suc, ◌+◌, ◌<◌, ◌≤◌, List, [], ◌∷◌, ◌++◌, length, map, refl}
-use Rattle.std.proofs.Common.{◌∙◌, ap, sym, subst, arith, length-append, add-zero, add-suc, suc-add}
+use Rattle.std.proofs.Common.{◌∙◌, ap, sym, subst, arith, length-append, zero-add}
 use Rattle.std.proofs.lemmas.List.{map-append}
 use Rattle.core_form.specs.Facts.{FunctionText}
 use Rattle.core_form.specs.Lawful.{CountFrom, function_number}
@@ -68,3 +68,7 @@ rebind {w = w} {after = after} {n = n} {fs = fs} is h = subst (λ (bs : List ℕ
 
 pub refunction : {w after : World} {n : ℕ} {bs : List ℕ} {fs gs : List FunctionText} → fs ≡ gs → Counted w n bs fs after → Counted w n bs gs after
 refunction {w = w} {after = after} {n = n} {bs = bs} is h = subst (λ (fs : List FunctionText). Counted w n bs fs after) is h
+
+-- after a step that counts nothing
+pub after_same : {w u after : World} {n : ℕ} {bs : List ℕ} {fs : List FunctionText} → SameCounts w u → Counted u n bs fs after → Counted w n bs fs after
+after_same {n = n} h k = recount (zero-add n) (then (same_counted h) k)

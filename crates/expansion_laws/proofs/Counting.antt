@@ -29,7 +29,7 @@ use Rattle.expansion_laws.specs.Counts.{IsCounted, TreesAreCounted}
 use Rattle.expansion_laws.proofs.Making.{trees_are_made}
 use Rattle.expansion_laws.proofs.KeptCounts.{kept}
 use Rattle.expansion_laws.proofs.KeptPlans.{function_kept, plan_kept}
-use Rattle.expansion_laws.proofs.Counted.{Counted, none_counted, same_counted, begins, then, recount, rebind, refunction}
+use Rattle.expansion_laws.proofs.Counted.{Counted, none_counted, after_same, begins, then, recount, rebind, refunction}
 
 -- a whole tree is counted
 abbrev TreeCounted : World → Core → World → Type 0
@@ -54,7 +54,7 @@ bounds_numbered (more_bounds h k) = then (bound_numbered h) (bounds_numbered k)
 
 some_numbered : {b : Option Binder} {w after : World} {x : Option Bound} → MadeSome b w x after → Numbered w (if_given (parameter_some x)) after
 some_numbered made_none = none_counted
-some_numbered (made_some h) = rebind (sym append-nil) (bound_numbered h)
+some_numbered (made_some {x = x} h) = rebind (sym (append-nil (parameter_number x.1))) (bound_numbered h)
 
 abbrev initial_parameters : List (Bound × Val) → List Parameter
 initial_parameters ps = map (λ (p : Bound × Val). p.0.1) ps
@@ -73,8 +73,8 @@ bound_parameters (o ∷ os) = o.bound.1 ∷ (if_given (parameter_some o.supplied
 
 optionals_numbered : {os : List Optional'} {w after : World} {xs : List BoundOptional} → MadeOptionals os w xs after → Numbered w (bound_parameters xs) after
 optionals_numbered no_optionals = none_counted
-optionals_numbered (more_optionals {s = s} {xs = xs} h k l) =
-    rebind (ap (λ (bs : List ℕ). _ ++ bs) (sym (flat_map-append parameter_number (if_given (parameter_some s)) (bound_parameters xs))))
+optionals_numbered (more_optionals {x = x} {s = s} {xs = xs} h k l) =
+    rebind (ap (λ (bs : List ℕ). parameter_number x.1 ++ bs) (sym (flat_map-append parameter_number (if_given (parameter_some s)) (bound_parameters xs))))
     (then (bound_numbered h) (then (some_numbered k) (optionals_numbered l)))
 
 -- ---- nodes by their parts
@@ -187,6 +187,9 @@ parameter_numbers : (xs os rs : List Parameter) →
 parameter_numbers xs os rs =
     ap (λ (ns : List ℕ). flat_map parameter_number xs ++ ns) (sym (flat_map-append parameter_number os rs)) ∙ sym (flat_map-append parameter_number xs (os ++ rs))
 
+nothing_more : {A : Type 0} (xs : List A) → xs ++ [] ≡ xs
+nothing_more xs = append-nil xs
+
 regroup : (a b c d : List ℕ) → a ++ (b ++ (c ++ d)) ≡ (a ++ (b ++ c)) ++ d
 regroup a b c d = simp append_assoc
 
@@ -201,9 +204,9 @@ lambda_numbers xs os r es e is =
 mutual
   unfolding gather
   pub form_counted : {sc : Scope} {v : Val} {w after : World} {e : Core} → MadeForm sc v w e after → TreeCounted w e after
-  form_counted (made_instead {sc = sc} {v = v} plan h) = then (same_counted (kept (plan_kept _ v) _ _ _ plan)) (form_counted h)
-  form_counted (made_around {sc = sc} {v = v} plan h) = then (same_counted (kept (plan_kept _ v) _ _ _ plan)) (form_counted h)
-  form_counted (made_makes {sc = sc} {v = v} plan h) = then (same_counted (kept (plan_kept _ v) _ _ _ plan)) (sketch_counted h)
+  form_counted (made_instead {sc = sc} {v = v} plan h) = after_same (kept (plan_kept _ v) _ _ _ plan) (form_counted h)
+  form_counted (made_around {sc = sc} {v = v} plan h) = after_same (kept (plan_kept _ v) _ _ _ plan) (form_counted h)
+  form_counted (made_makes {sc = sc} {v = v} plan h) = after_same (kept (plan_kept _ v) _ _ _ plan) (sketch_counted h)
 
   sketch_counted : {sc : Scope} {x : Sketch} {w after : World} {e : Core} → Made sc x w e after → TreeCounted w e after
   sketch_counted (made_form h) = form_counted h
@@ -216,19 +219,19 @@ mutual
   sketch_counted (made_many {sc = sc} {m = m} {es = es} fits h) = many_counted m sc.place es (then (begins 1 fits) (each_counted h))
   sketch_counted (made_calling {sc = sc} {c = c} {e = e} {es = es} fits h k) =
       calling_counted c sc.place e es (recount (omega arith) (then (begins 1 fits) (then (sketch_counted h) (each_counted k))))
-  sketch_counted (made_bind {bs = bs} {ps = ps} {values = values} fits h k l) =
+  sketch_counted (made_bind {bs = bs} {ps = ps} {values = values} {e = e} fits h k l) =
       let as_many = as_many_initials h in
       let nodes = values_nodes k in
       recount (omega (arith, as_many, nodes))
-      (rebind (ap (λ (xs : List Parameter). flat_map parameter_number xs ++ (gather_bindings bound_here bound_by values ++ _)) (sym (values_parameters k)))
+      (rebind (ap (λ (xs : List Parameter). flat_map parameter_number xs ++ (gather_bindings bound_here bound_by values ++ bound_in e)) (sym (values_parameters k)))
       (then (begins (1 + length bs) fits) (then (initials_numbered h) (then (values_counted k) (sketch_counted l)))))
   sketch_counted (made_assign h) = sketch_counted h
   sketch_counted (made_function {sc = sc} h) = lambda_counted None sc.place h
   sketch_counted (made_functions {vs = vs} {ds = ds} fits h k) =
       let numbers = numbered_definitions h in
       recount (omega arith) (then (begins 1 fits) (then (takes (function_numbers ds) (length vs) numbers.0 numbers.1) (then (definitions_counted h) (sketch_counted k))))
-  sketch_counted (made_recursive {sc = sc} {s = s} {w = w} fits h again) =
-      recount (omega arith) (then (begins 1 fits) (then (takes (w.next ∷ []) 1 (refl, tt) refl) (then (lambda_counted (Some s) sc.place h) (begins 1 again))))
+  sketch_counted (made_recursive {sc = sc} {s = s} {w = w} {l = l} fits h again) =
+      recount (omega arith) (rebind (ap (λ (ns : List ℕ). w.next ∷ ns) (sym (nothing_more (gather_lambda bound_here bound_by (Some s) sc.place l ++ [])))) (refunction (sym (nothing_more (gather_lambda no_node one_text (Some s) sc.place l ++ []))) (then (begins 1 fits) (then (takes (w.next ∷ []) 1 (refl, tt) refl) (then (lambda_counted (Some s) sc.place h) (begins 1 again))))))
   sketch_counted (made_block {w = w} fits h) =
       recount (omega arith) (then (begins 1 fits) (then (takes (w.next ∷ []) 1 (refl, tt) refl) (sketch_counted h)))
   sketch_counted (made_tagbody {vs = vs} {is = is} fits h) =
@@ -264,7 +267,7 @@ mutual
       Counted w (definitions_count ds) (gather_definitions bound_here bound_by ds) (gather_definitions no_node one_text ds) after
   definitions_counted no_definitions = none_counted
   definitions_counted (more_definitions {sc = sc} {v = v} {w = w} {s = s} name given h k) =
-      then (same_counted (kept (function_kept _) _ _ _ given)) (then (lambda_counted (Some s) _ h) (definitions_counted k))
+      after_same (kept (function_kept _) _ _ _ given) (then (lambda_counted (Some s) _ h) (definitions_counted k))
 
   items_counted : {sc : Scope} {n : ℕ} {vs : List Val} {w after : World} {is : Items} → MadeItems sc n vs w is after →
       Counted w (items_count is) (gather_items bound_here bound_by is) (gather_items no_node one_text is) after

@@ -5,3 +5,5 @@ pub mod KeptCounts
 pub mod KeptPlans
 pub mod Counted
 pub mod Counting
+pub mod Fixed
+pub mod Placed

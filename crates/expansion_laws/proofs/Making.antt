@@ -89,16 +89,16 @@ values_are_made inner sc h (p ∷ ps) w bs after is =
     ends (λ (bs : Bindings) (after : World). MadeValues sc (p ∷ ps) w bs after) _ bs t.between after t.second
     (more_values (h _ w s.value s.between s.first) (values_are_made inner sc h ps s.between t.value t.between t.first))
 
-defaults_are_made : (inner : Scope → Sketch → Step Core) → ((sc : Scope) → AreMade sc (inner sc)) → (sc : Scope) (os : List BoundOptional) (w : World) (found : Optionals × Scope) (after : World) →
-    defaults inner sc os w ≡ gives found after → MadeDefaults sc os w found.0 found.1 after
+defaults_are_made : (inner : Scope → Sketch → Step Core) → ((sc : Scope) → AreMade sc (inner sc)) → (sc : Scope) (os : List BoundOptional) (w : World) (made : Optionals × Scope) (after : World) →
+    defaults inner sc os w ≡ gives made after → MadeDefaults sc os w made.0 made.1 after
 unfolding defaults
-defaults_are_made inner h sc [] w found after is =
-    ends (λ (found : Optionals × Scope) (after : World). MadeDefaults sc [] w found.0 found.1 after) _ found w after is no_defaults
-defaults_are_made inner h sc (o ∷ os) w found after is =
-    let s = both _ _ w found after is in
-    let t = both _ _ s.between found after s.second in
-    ends (λ (found : Optionals × Scope) (after : World). MadeDefaults sc (o ∷ os) w found.0 found.1 after) _ found t.between after t.second
-    (more_defaults (h sc _ w s.value s.between s.first) (defaults_are_made inner h _ os s.between t.value t.between t.first))
+defaults_are_made inner h sc [] w made after is =
+    ends (λ (made : Optionals × Scope) (after : World). MadeDefaults sc [] w made.0 made.1 after) _ made w after is no_defaults
+defaults_are_made inner h sc (o ∷ os) w made after is =
+    let s = both _ _ w made after is in
+    let t = both _ _ s.between made after s.second in
+    ends (λ (made : Optionals × Scope) (after : World). MadeDefaults sc (o ∷ os) w made.0 made.1 after) _ made t.between after t.second
+    (more_defaults (h sc _ w s.value s.between s.first) (defaults_are_made inner h (with_some (with_bound sc o.bound) o.supplied) os s.between t.value t.between t.first))
 
 items_are_made : (inner : Sketch → Step Core) (sc : Scope) → AreMade sc inner → (n : ℕ) (vs : List Val) (w : World) (is : Items) (after : World) →
     items inner n vs w ≡ gives is after → MadeItems sc n vs w is after
@@ -236,13 +236,12 @@ goes_on expanded h (suc chain) sc own v w e after is = h chain own v w e after i
 form_is_made : (expanded : ℕ → Scope → Val → Step Core) (made : Scope → Sketch → Step Core) → FormsAreMade expanded → ((sc : Scope) → AreMade sc (made sc)) →
     (chain : ℕ) (sc : Scope) (v : Val) (w : World) (e : Core) (after : World) →
     planned expanded made chain (at_form w.heap v sc) v w ≡ gives e after → MadeForm sc v w e after
-unfolding planned
+unfolding planned followed
 form_is_made expanded made h k chain sc v w e after is =
     let p = both _ _ w e after is in by_plan p.value p.between p.first p.second
   where
     by_plan : (p : Plan) (u : World) → plan_of (at_form w.heap v sc) v w ≡ gives p u →
         followed expanded made chain (at_form w.heap v sc) p u ≡ gives e after → MadeForm sc v w e after
-    unfolding followed
     by_plan (instead other) u plan is = made_instead plan (goes_on expanded h chain _ _ other u e after is)
     by_plan (declared_around d other) u plan is = made_around plan (goes_on expanded h chain _ _ other u e after is)
     by_plan (makes x) u plan is = made_makes plan (k _ x u e after is)

@@ -70,12 +70,11 @@ le_of_test m n h = grind (arith, nat_tests)
 
 pub began : {A : Type 0} (count levels : ℕ) (sc : Scope) (k : Step A) (w : World) (a : A) (after : World) →
     (begin count levels sc >> k) w ≡ gives a after → Began count k w a after
-unfolding ◌>>=◌ ◌>>◌ begin
+unfolding ◌>>=◌ ◌>>◌ begin begun
 began {A = A} count levels sc k w a after is = by_test (nat_le (w.nodes + count) most_nodes) levels refl is
   where
     by_test : (b : Bool) (n : ℕ) → nat_le (w.nodes + count) most_nodes ≡ b →
         and_then (begun b n sc (counted count w)) (λ _. k) ≡ gives a after → Began count k w a after
-    unfolding begun
     by_test false n test second = absurd (cc)
     by_test true zero test second = absurd (cc)
     by_test true (suc n) test second = record { fits = le_of_test (w.nodes + count) most_nodes test; rest = second }
