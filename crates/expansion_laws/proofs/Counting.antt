@@ -183,23 +183,19 @@ takes_function f h = record { nodes = omega arith; binders = tt; next = omega ar
 
 -- the numbers of a function's variables, one part after another
 parameter_numbers : (xs os rs : List Parameter) →
-    flat_map parameter_number xs ++ (flat_map parameter_number os ++ flat_map parameter_number rs) ≡ flat_map parameter_number (xs ++ (os ++ rs))
+    (flat_map parameter_number xs ++ flat_map parameter_number os) ++ flat_map parameter_number rs ≡ flat_map parameter_number ((xs ++ os) ++ rs)
 parameter_numbers xs os rs =
-    ap (λ (ns : List ℕ). flat_map parameter_number xs ++ ns) (sym (flat_map-append parameter_number os rs)) ∙ sym (flat_map-append parameter_number xs (os ++ rs))
+    ap (λ (ns : List ℕ). ns ++ flat_map parameter_number rs) (sym (flat_map-append parameter_number xs os)) ∙ sym (flat_map-append parameter_number (xs ++ os) rs)
 
 nothing_more : {A : Type 0} (xs : List A) → xs ++ [] ≡ xs
 nothing_more xs = append-nil xs
 
-regroup : (a b c d : List ℕ) → a ++ (b ++ (c ++ d)) ≡ (a ++ (b ++ c)) ++ d
-regroup a b c d = simp append_assoc
-
-lambda_numbers : (xs : List Bound) (os : List BoundOptional) (r : Option Bound) (es : Optionals) (e : Core) → optional_parameters es ≡ bound_parameters os →
-    flat_map parameter_number (parameters xs) ++ (flat_map parameter_number (bound_parameters os) ++ (flat_map parameter_number (if_given (parameter_some r)) ++ (gather_optionals bound_here bound_by es ++ bound_in e)))
-    ≡ flat_map parameter_number (parameters xs ++ (optional_parameters es ++ if_given (parameter_some r))) ++ (gather_optionals bound_here bound_by es ++ bound_in e)
-lambda_numbers xs os r es e is =
-    regroup (flat_map parameter_number (parameters xs)) (flat_map parameter_number (bound_parameters os)) (flat_map parameter_number (if_given (parameter_some r))) (gather_optionals bound_here bound_by es ++ bound_in e)
-    ∙ ap (λ (ns : List ℕ). ns ++ (gather_optionals bound_here bound_by es ++ bound_in e)) (parameter_numbers (parameters xs) (bound_parameters os) (if_given (parameter_some r)))
-    ∙ ap (λ (ys : List Parameter). flat_map parameter_number (parameters xs ++ (ys ++ if_given (parameter_some r))) ++ (gather_optionals bound_here bound_by es ++ bound_in e)) (sym is)
+lambda_numbers : (xs : List Bound) (os : List BoundOptional) (r : Option Bound) (es : Optionals) (inside : List ℕ) → optional_parameters es ≡ bound_parameters os →
+    ((flat_map parameter_number (parameters xs) ++ flat_map parameter_number (bound_parameters os)) ++ flat_map parameter_number (if_given (parameter_some r))) ++ inside
+    ≡ flat_map parameter_number ((parameters xs ++ optional_parameters es) ++ if_given (parameter_some r)) ++ inside
+lambda_numbers xs os r es inside is =
+    ap (λ (ns : List ℕ). ns ++ inside) (parameter_numbers (parameters xs) (bound_parameters os) (if_given (parameter_some r)))
+    ∙ ap (λ (ys : List Parameter). flat_map parameter_number ((parameters xs ++ ys) ++ if_given (parameter_some r)) ++ inside) (sym is)
 
 mutual
   unfolding gather
@@ -213,30 +209,30 @@ mutual
   sketch_counted (made_leaf {sc = sc} {l = l} fits) = leaf_counted l sc.place fits
   sketch_counted (made_one {sc = sc} {u = u} {e = e} fits h) = one_counted u sc.place e (then (begins (unary_count u) fits) (sketch_counted h))
   sketch_counted (made_two {sc = sc} {b = b} {e = e} {f = f} fits h k) =
-      two_counted b sc.place e f (recount (omega arith) (then (begins 1 fits) (then (sketch_counted h) (sketch_counted k))))
+      two_counted b sc.place e f (then (then (begins 1 fits) (sketch_counted h)) (sketch_counted k))
   sketch_counted (made_choice fits h k l) =
-      recount (omega arith) (then (begins 1 fits) (then (sketch_counted h) (then (sketch_counted k) (sketch_counted l))))
+      then (then (then (begins 1 fits) (sketch_counted h)) (sketch_counted k)) (sketch_counted l)
   sketch_counted (made_many {sc = sc} {m = m} {es = es} fits h) = many_counted m sc.place es (then (begins 1 fits) (each_counted h))
   sketch_counted (made_calling {sc = sc} {c = c} {e = e} {es = es} fits h k) =
-      calling_counted c sc.place e es (recount (omega arith) (then (begins 1 fits) (then (sketch_counted h) (each_counted k))))
+      calling_counted c sc.place e es (then (then (begins 1 fits) (sketch_counted h)) (each_counted k))
   sketch_counted (made_bind {bs = bs} {ps = ps} {values = values} {e = e} fits h k l) =
       let as_many = as_many_initials h in
       let nodes = values_nodes k in
       recount (omega (arith, as_many, nodes))
-      (rebind (ap (λ (xs : List Parameter). flat_map parameter_number xs ++ (gather_bindings bound_here bound_by values ++ bound_in e)) (sym (values_parameters k)))
-      (then (begins (1 + length bs) fits) (then (initials_numbered h) (then (values_counted k) (sketch_counted l)))))
+      (rebind (ap (λ (xs : List Parameter). (flat_map parameter_number xs ++ gather_bindings bound_here bound_by values) ++ bound_in e) (sym (values_parameters k)))
+      (then (then (then (begins (1 + length bs) fits) (initials_numbered h)) (values_counted k)) (sketch_counted l)))
   sketch_counted (made_assign h) = sketch_counted h
   sketch_counted (made_function {sc = sc} h) = lambda_counted None sc.place h
   sketch_counted (made_functions {vs = vs} {ds = ds} fits h k) =
       let numbers = numbered_definitions h in
-      recount (omega arith) (then (begins 1 fits) (then (takes (function_numbers ds) (length vs) numbers.0 numbers.1) (then (definitions_counted h) (sketch_counted k))))
+      recount (omega arith) (then (then (then (begins 1 fits) (takes (function_numbers ds) (length vs) numbers.0 numbers.1)) (definitions_counted h)) (sketch_counted k))
   sketch_counted (made_recursive {sc = sc} {s = s} {w = w} {l = l} fits h again) =
-      recount (omega arith) (rebind (ap (λ (ns : List ℕ). w.next ∷ ns) (sym (nothing_more (gather_lambda bound_here bound_by (Some s) sc.place l ++ [])))) (refunction (sym (nothing_more (gather_lambda no_node one_text (Some s) sc.place l ++ []))) (then (begins 1 fits) (then (takes (w.next ∷ []) 1 (refl, tt) refl) (then (lambda_counted (Some s) sc.place h) (begins 1 again))))))
+      recount (omega arith) (rebind (ap (λ (ns : List ℕ). w.next ∷ ns) (sym (nothing_more (gather_lambda bound_here bound_by (Some s) sc.place l ++ [])))) (refunction (sym (nothing_more (gather_lambda no_node one_text (Some s) sc.place l ++ []))) (then (then (then (begins 1 fits) (takes (w.next ∷ []) 1 (refl, tt) refl)) (lambda_counted (Some s) sc.place h)) (begins 1 again))))
   sketch_counted (made_block {w = w} fits h) =
-      recount (omega arith) (then (begins 1 fits) (then (takes (w.next ∷ []) 1 (refl, tt) refl) (sketch_counted h)))
+      recount (omega arith) (then (then (begins 1 fits) (takes (w.next ∷ []) 1 (refl, tt) refl)) (sketch_counted h))
   sketch_counted (made_tagbody {vs = vs} {is = is} fits h) =
       let numbers = numbered_tags h in
-      recount (omega arith) (then (begins 1 fits) (then (takes (tag_numbers is) (tags_in vs) numbers.0 numbers.1) (items_counted h)))
+      recount (omega arith) (then (then (begins 1 fits) (takes (tag_numbers is) (tags_in vs) numbers.0 numbers.1)) (items_counted h))
   sketch_counted (made_within h) = sketch_counted h
 
   each_counted : {sc : Scope} {xs : Sketches} {w after : World} {es : Cores} → MadeEach sc xs w es after → AllCounted w es after
@@ -255,19 +251,18 @@ mutual
 
   lambda_counted : {sc : Scope} {f : sketches.Function} {w after : World} {l : Lambda} (name : Option SymId) (p : Place) → MadeLambda sc f w l after →
       Counted w (lambda_count l) (gather_lambda bound_here bound_by name p l) (gather_lambda no_node one_text name p l) after
-  lambda_counted name p (made_lambda {w = w} {xs = xs} {os = os} {r = r} {es = es} {e = e} bounds optionals rest fits h k) =
+  lambda_counted name p (made_lambda {w = w} {xs = xs} {os = os} {r = r} {es = es} {e = e} first second third fits h k) =
       let nodes = defaults_nodes h in
       let l = lambda w.functions (parameters xs) es (parameter_some r) e in
       recount (omega (arith, nodes))
-      (rebind (lambda_numbers xs os r es e (defaults_parameters h))
-      (then (takes_function (record { name = name; place = p; lambda = l }) (refl, tt))
-      (then (bounds_numbered bounds) (then (optionals_numbered optionals) (then (some_numbered rest) (then (begins (function_size xs os r) fits) (then (defaults_counted h) (sketch_counted k))))))))
+      (rebind (ap (λ (ns : List ℕ). ns ++ bound_in e) (lambda_numbers xs os r es (gather_optionals bound_here bound_by es) (defaults_parameters h)))
+      (then (then (then (then (then (takes_function (record { name = name; place = p; lambda = l }) (refl, tt)) (bounds_numbered first)) (optionals_numbered second)) (some_numbered third)) (then (begins (function_size xs os r) fits) (defaults_counted h))) (sketch_counted k)))
 
   definitions_counted : {sc : Scope} {n : ℕ} {vs : List Val} {w after : World} {ds : Definitions} → MadeDefinitions sc n vs w ds after →
       Counted w (definitions_count ds) (gather_definitions bound_here bound_by ds) (gather_definitions no_node one_text ds) after
   definitions_counted no_definitions = none_counted
   definitions_counted (more_definitions {sc = sc} {v = v} {w = w} {s = s} name given h k) =
-      after_same (kept (function_kept _) _ _ _ given) (then (lambda_counted (Some s) _ h) (definitions_counted k))
+      after_same (kept (function_kept _ _ _) _ _ _ given) (then (lambda_counted (Some s) _ h) (definitions_counted k))
 
   items_counted : {sc : Scope} {n : ℕ} {vs : List Val} {w after : World} {is : Items} → MadeItems sc n vs w is after →
       Counted w (items_count is) (gather_items bound_here bound_by is) (gather_items no_node one_text is) after

@@ -9,7 +9,7 @@ use Rattle.lisp_forms.specs.Conses.{place_at}
 use Rattle.declarations.specs.Declarations.{Typed, Declared}
 use Rattle.expansion.specs.declared.heads.Reach.{Reach}
 use Rattle.expansion.specs.declared.heads.Reach.TheVariants.{ForBody, ForAll}
-use Rattle.expansion.specs.Scopes.{Scope, value_or, own_place, at_form, with_special, with_type, declared_in}
+use Rattle.expansion.specs.Scopes.{Scope, value_or, own_place, at_form, with_special, with_type, declared_in, with_tag}
 use Rattle.expansion.specs.Forms.{is_tag}
 use Rattle.expansion.specs.Expanding.{Bound, with_bound, with_all, with_some, definition_name, with_named, with_definitions, around_definitions, with_tags}
 
@@ -45,7 +45,7 @@ fixed_bound b h = record { fixed = h.fixed; at = h.at }
 
 pub fixed_all : {p : Place} {sc : Scope} (bs : List Bound) → IsFixed p sc → IsFixed p (with_all sc bs)
 fixed_all [] h = h
-fixed_all (b ∷ bs) h = fixed_all bs (fixed_bound b h)
+fixed_all {sc = sc} (b ∷ bs) h = fixed_all {sc = with_bound sc b} bs (fixed_bound b h)
 
 pub fixed_some : {p : Place} {sc : Scope} (b : Option Bound) → IsFixed p sc → IsFixed p (with_some sc b)
 fixed_some None h = h
@@ -57,7 +57,7 @@ fixed_named n (Some s) h = record { fixed = h.fixed; at = h.at }
 
 pub fixed_definitions : {p : Place} {sc : Scope} (heap : List Object) (n : ℕ) (vs : List Val) → IsFixed p sc → IsFixed p (with_definitions heap n vs sc)
 fixed_definitions heap n [] h = h
-fixed_definitions {sc = sc} heap n (v ∷ vs) h = fixed_definitions heap (suc n) vs (fixed_named n (definition_name sc heap v) h)
+fixed_definitions {sc = sc} heap n (v ∷ vs) h = fixed_definitions {sc = with_named (definition_name sc heap v) n sc} heap (suc n) vs (fixed_named n (definition_name sc heap v) h)
 
 pub fixed_around : {p : Place} {outer inner : Scope} (reach : Reach) → IsFixed p outer → IsFixed p inner → IsFixed p (around_definitions reach outer inner)
 fixed_around ForBody h k = h
@@ -69,4 +69,4 @@ fixed_if false h k = k
 
 pub fixed_tags : {p : Place} {sc : Scope} (n : ℕ) (vs : List Val) → IsFixed p sc → IsFixed p (with_tags n vs sc)
 fixed_tags n [] h = h
-fixed_tags n (v ∷ vs) h = fixed_if (is_tag v) (fixed_tags (suc n) vs (record { fixed = h.fixed; at = h.at })) (fixed_tags n vs h)
+fixed_tags {sc = sc} n (v ∷ vs) h = fixed_if (is_tag v) (fixed_tags {sc = with_tag v n sc} (suc n) vs (record { fixed = h.fixed; at = h.at })) (fixed_tags n vs h)

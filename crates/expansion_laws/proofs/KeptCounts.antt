@@ -2,6 +2,7 @@
 use Rattle.std.specs.Prelude.{◌≡◌, ℕ, Bool, true, false, Option, Some, None, refl}
 use Rattle.std.proofs.Common.{◌∙◌, subst}
 use Rattle.expansion.specs.declared.kind.ExpandKind.{ExpandKind}
+use Rattle.expansion.specs.declared.kind.ExpandKind.TheVariants.{BadForm}
 use Rattle.expansion.specs.Scopes.{Scope}
 use Rattle.expansion.specs.Steps.{World, Answer, gives, refused, Step, and_then, ◌>>=◌, ◌>>◌, pure, refuse, given_or, expect, only_if, look, change}
 
@@ -29,35 +30,35 @@ kept {A = A} {m = m} h w a u is = subst (λ (x : Answer A). Kept w x) is (h.keep
 
 -- ---- one lemma for each kind of step
 
-pub keeps_pure : {A : Type 0} {a : A} → KeepsCounts (pure a)
+pub keeps_pure : {A : Type 0} (a : A) → KeepsCounts (pure a)
 unfolding pure
-keeps_pure = record { keeps = λ w. same }
+keeps_pure a = record { keeps = λ w. same }
 
-pub keeps_refuse : {A : Type 0} {kind : ExpandKind} {sc : Scope} → KeepsCounts (refuse {A = A} kind sc)
+pub keeps_refuse : {A : Type 0} (kind : ExpandKind) (sc : Scope) → KeepsCounts (refuse {A = A} kind sc)
 unfolding refuse
-keeps_refuse = record { keeps = λ w. tt }
+keeps_refuse kind sc = record { keeps = λ w. tt }
 
-pub keeps_look : {A : Type 0} {f : World → A} → KeepsCounts (look f)
+pub keeps_look : {A : Type 0} (f : World → A) → KeepsCounts (look f)
 unfolding look
-keeps_look = record { keeps = λ w. same }
+keeps_look f = record { keeps = λ w. same }
 
 pub keeps_change : {f : World → World} → ((w : World) → SameCounts w (f w)) → KeepsCounts (change f)
 unfolding change
 keeps_change h = record { keeps = h }
 
-pub keeps_given : {A : Type 0} {kind : ExpandKind} {sc : Scope} (o : Option A) → KeepsCounts (given_or kind sc o)
+pub keeps_given : {A : Type 0} (kind : ExpandKind) (sc : Scope) (o : Option A) → KeepsCounts (given_or kind sc o)
 unfolding given_or
-keeps_given None = keeps_refuse
-keeps_given (Some a) = keeps_pure
+keeps_given kind sc None = keeps_refuse kind sc
+keeps_given kind sc (Some a) = keeps_pure a
 
-pub keeps_expect : {A : Type 0} {sc : Scope} (o : Option A) → KeepsCounts (expect sc o)
+pub keeps_expect : {A : Type 0} (sc : Scope) (o : Option A) → KeepsCounts (expect sc o)
 unfolding expect
-keeps_expect o = keeps_given o
+keeps_expect sc o = keeps_given BadForm sc o
 
-pub keeps_only : {sc : Scope} (b : Bool) → KeepsCounts (only_if sc b)
+pub keeps_only : (sc : Scope) (b : Bool) → KeepsCounts (only_if sc b)
 unfolding only_if
-keeps_only true = keeps_pure
-keeps_only false = keeps_refuse
+keeps_only sc true = keeps_pure tt
+keeps_only sc false = keeps_refuse BadForm sc
 
 pub keeps_bind : {A B : Type 0} {m : Step A} {f : A → Step B} → KeepsCounts m → ((a : A) → KeepsCounts (f a)) → KeepsCounts (m >>= f)
 unfolding ◌>>=◌
@@ -75,5 +76,5 @@ unfolding ◌>>◌
 keeps_then h k = keeps_bind h (λ a. k)
 
 -- what the world says, and then a step on that
-pub keeps_looked : {A B : Type 0} {f : World → A} {k : A → Step B} → ((a : A) → KeepsCounts (k a)) → KeepsCounts (look f >>= k)
-keeps_looked h = keeps_bind keeps_look h
+pub keeps_looked : {A B : Type 0} (f : World → A) {k : A → Step B} → ((a : A) → KeepsCounts (k a)) → KeepsCounts (look f >>= k)
+keeps_looked f h = keeps_bind (keeps_look f) h

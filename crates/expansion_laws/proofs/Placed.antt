@@ -108,7 +108,7 @@ mutual
   sketch_at (made_leaf {sc = sc} {l = l} fits) f = leaf_at l sc.place f.at
   sketch_at (made_one {sc = sc} {u = u} {e = e} fits h) f = one_node_at u sc.place e f.at (sketch_at h f)
   sketch_at (made_two {sc = sc} {b = b} {e = e} {f = g} fits h k) f = two_node_at b sc.place e g f.at (sketch_at h f) (sketch_at k f)
-  sketch_at (made_choice fits h k l) f = then_at f.at (both_at (sketch_at h f) (both_at (sketch_at k f) (sketch_at l f)))
+  sketch_at (made_choice fits h k l) f = then_at f.at (both_at (both_at (sketch_at h f) (sketch_at k f)) (sketch_at l f))
   sketch_at (made_many {sc = sc} {m = m} {es = es} fits h) f = many_node_at m sc.place es f.at (each_at h f)
   sketch_at (made_calling {sc = sc} {c = c} {e = e} {es = es} fits h k) f = calling_node_at c sc.place e es f.at (sketch_at h f) (each_at k f)
   sketch_at (made_bind {ps = ps} fits h k l) f = then_at f.at (both_at (values_at k f) (sketch_at l (fixed_all (bounds_of ps) f)))
@@ -140,7 +140,7 @@ mutual
 
   lambda_at : {sc : Scope} {x : sketches.Function} {w after : World} {l : Lambda} {p : Place} (name : Option SymId) (q : Place) → q ≡ p → MadeLambda sc x w l after → IsFixed p sc →
       At p (gather_lambda node_place function_place name q l)
-  lambda_at name q is (made_lambda {xs = xs} {r = r} bounds optionals rest fits h k) f =
+  lambda_at name q is (made_lambda {xs = xs} {r = r} _ _ _ _ h k) f =
       let d = defaults_at h (fixed_all xs f) in then_at is (both_at d.0 (sketch_at k (fixed_some r d.1)))
 
   definitions_at : {sc : Scope} {n : ℕ} {vs : List Val} {w after : World} {ds : Definitions} {p : Place} → MadeDefinitions sc n vs w ds after → IsFixed p sc →
