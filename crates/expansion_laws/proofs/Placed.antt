@@ -23,6 +23,8 @@ use Rattle.expansion.specs.Sketches.{leaf_node, Unary, SettingLocal, SettingGlob
 use Rattle.expansion.specs.Sketches as sketches
 use Rattle.expansion.specs.Expanding.{Bound, BoundOptional, bounds_of}
 use Rattle.expansion_laws.specs.Made.{MadeForm, made_instead, made_around, made_makes, Made, made_form, made_leaf, made_one, made_two, made_choice, made_many, made_calling, made_bind, made_assign, made_function, made_functions, made_recursive, made_block, made_tagbody, made_within, MadeEach, no_parts, more_parts, MadeValues, no_values, more_values, MadeDefaults, no_defaults, more_defaults, MadeLambda, made_lambda, MadeDefinitions, no_definitions, more_definitions, MadeItems, no_items, one_tag, one_step}
+use Rattle.expansion_laws.specs.Places.{TreesStayInPlace}
+use Rattle.expansion_laws.proofs.Making.{trees_are_made}
 use Rattle.expansion_laws.proofs.Fixed.{IsFixed, fixed_at, fixed_declared, fixed_all, fixed_some, fixed_bound, fixed_definitions, fixed_around, fixed_tags}
 
 -- all of these places are p
@@ -154,3 +156,9 @@ mutual
   items_at no_items f = none_at
   items_at (one_tag test k) f = items_at k f
   items_at (one_step test h k) f = both_at (sketch_at h f) (items_at k f)
+
+-- ---- the law
+
+pub trees_stay_in_place : TreesStayInPlace
+trees_stay_in_place fuel levels chain sc v w e after fixed is =
+    (form_at (trees_are_made fuel levels chain sc v w e after is) (record { fixed = fixed; at = refl })).all

@@ -1,3 +1,4 @@
 -- The definitions of this crate.
 pub mod Made
 pub mod Counts
+pub mod Places

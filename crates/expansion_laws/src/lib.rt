@@ -3,4 +3,4 @@
 
 mod made_trees;
 
-pub use made_trees::{trees_are_counted, trees_are_made};
+pub use made_trees::{trees_are_counted, trees_are_made, trees_stay_in_place};
