@@ -1,12 +1,11 @@
 -- A tree has as many nodes, binders and functions as were counted while it was made.
-use Rattle.std.specs.Prelude.{◌≡◌, ℕ, zero, suc, ◌+◌, ◌<◌, ◌≤◌, Bool, true, false, List, [], ◌∷◌, ◌++◌, length, map, flat_map, Option, Some, None, refl}
-use Rattle.std.proofs.Common.{◌∙◌, ap, sym, subst, arith, length-append, append_assoc, append-nil}
+use Rattle.std.specs.Prelude.{◌≡◌, ℕ, suc, ◌+◌, ◌<◌, ◌≤◌, Bool, true, false, List, [], ◌∷◌, ◌++◌, length, map, flat_map, Option, Some, None, refl}
+use Rattle.std.proofs.Common.{◌∙◌, ap, sym, arith, append-nil}
 use Rattle.std.proofs.lemmas.List.Concat.{flat_map-append}
 use Rattle.lisp_base.specs.declared.values.Place.{Place}
 use Rattle.lisp_base.specs.declared.values.SymId.{SymId}
 use Rattle.lisp_base.specs.declared.values.Val.{Val}
-use Rattle.core_form.specs.Tree as tree
-use Rattle.core_form.specs.Tree.{Parameter, Core, Quote, Function, Cores, Bindings, no_binding, binding, Optionals, no_optional, optional, Lambda, lambda, Definitions, Items, node_count, node_counts, bindings_count, optionals_count, lambda_count, definitions_count, items_count, parameters_count, parameter_count, if_there}
+use Rattle.core_form.specs.Tree.{Parameter, Core, Quote, Function, Cores, Bindings, no_binding, binding, Optionals, no_optional, optional, Lambda, lambda, Definitions, Items, node_count, node_counts, bindings_count, optionals_count, lambda_count, definitions_count, items_count}
 use Rattle.core_form.specs.Facts.{FunctionText, gather, gather_all, gather_bindings, gather_optionals, gather_lambda, gather_definitions, gather_items, no_node, one_function as one_text, functions_in, parameter_number, if_given, binding_parameters, optional_parameters}
 use Rattle.core_form.specs.Lawful.{CountFrom, function_number, bound_here, bound_by, bound_in}
 use Rattle.core_form.specs.Checked.{function_numbers, tag_numbers}
@@ -19,13 +18,12 @@ use Rattle.expansion.specs.declared.heads.Many.TheVariants.{Sequence, CallingLoc
 use Rattle.expansion.specs.declared.heads.Calling.{Calling}
 use Rattle.expansion.specs.declared.heads.Calling.TheVariants.{Funcalling, Applying, CallingWithValues}
 use Rattle.expansion.specs.Scopes.{Scope}
-use Rattle.expansion.specs.Steps.{World, gives, most_nodes}
+use Rattle.expansion.specs.Steps.{World, most_nodes}
 use Rattle.expansion.specs.Sketches.{leaf_node, Unary, SettingLocal, SettingGlobal, SettingFunction, Testing, Checking, Returning, unary_node, unary_count, binary_node, many_node, calling_node, Binder, Initial, Optional', Sketch, Sketches}
 use Rattle.expansion.specs.Sketches as sketches
-use Rattle.expansion.specs.Forms.{plan_of, is_tag}
-use Rattle.expansion.specs.Expanding.{Bound, is_special, numbers_for, variable_for, parameter_for, parameters, parameter_some, bounds_of, BoundOptional, optionals_size, function_size, tags_in, expand}
+use Rattle.expansion.specs.Expanding.{Bound, is_special, numbers_for, variable_for, parameter_for, parameters, parameter_some, BoundOptional, optionals_size, function_size, tags_in}
 use Rattle.expansion_laws.specs.Made.{counted, numbered, one_function, MadeBound, made_bound, MadeBounds, no_bounds, more_bounds, MadeSome, made_none, made_some, MadeInitials, no_initials, more_initials, MadeOptionals, no_optionals, more_optionals, MadeForm, made_instead, made_around, made_makes, Made, made_form, made_leaf, made_one, made_two, made_choice, made_many, made_calling, made_bind, made_assign, made_function, made_functions, made_recursive, made_block, made_tagbody, made_within, MadeEach, no_parts, more_parts, MadeValues, no_values, more_values, MadeDefaults, no_defaults, more_defaults, MadeLambda, made_lambda, MadeDefinitions, no_definitions, more_definitions, MadeItems, no_items, one_tag, one_step}
-use Rattle.expansion_laws.specs.Counts.{IsCounted, TreesAreCounted}
+use Rattle.expansion_laws.specs.Counts.{TreesAreCounted}
 use Rattle.expansion_laws.proofs.Making.{trees_are_made}
 use Rattle.expansion_laws.proofs.KeptCounts.{kept}
 use Rattle.expansion_laws.proofs.KeptPlans.{function_kept, plan_kept}
@@ -199,6 +197,7 @@ lambda_numbers xs os r es inside is =
 
 mutual
   unfolding gather
+
   pub form_counted : {sc : Scope} {v : Val} {w after : World} {e : Core} → MadeForm sc v w e after → TreeCounted w e after
   form_counted (made_instead {sc = sc} {v = v} plan h) = after_same (kept (plan_kept _ v) _ _ _ plan) (form_counted h)
   form_counted (made_around {sc = sc} {v = v} plan h) = after_same (kept (plan_kept _ v) _ _ _ plan) (form_counted h)

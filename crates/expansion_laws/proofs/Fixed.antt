@@ -1,6 +1,5 @@
 -- Where all places are one, they stay that one in each scope inside.
-use Rattle.std.specs.Prelude.{◌≡◌, ℕ, suc, Bool, true, false, if◌then◌else◌, List, [], ◌∷◌, Option, Some, None, fold, refl}
-use Rattle.std.proofs.Common.{subst, sym, ap}
+use Rattle.std.specs.Prelude.{◌≡◌, ℕ, suc, Bool, true, false, if◌then◌else◌, List, [], ◌∷◌, Option, Some, None, fold}
 use Rattle.lisp_base.specs.declared.values.Place.{Place}
 use Rattle.lisp_base.specs.declared.values.SymId.{SymId}
 use Rattle.lisp_base.specs.declared.values.Val.{Val}
@@ -9,7 +8,7 @@ use Rattle.lisp_forms.specs.Conses.{place_at}
 use Rattle.declarations.specs.Declarations.{Typed, Declared}
 use Rattle.expansion.specs.declared.heads.Reach.{Reach}
 use Rattle.expansion.specs.declared.heads.Reach.TheVariants.{ForBody, ForAll}
-use Rattle.expansion.specs.Scopes.{Scope, value_or, own_place, at_form, with_special, with_type, declared_in, with_tag}
+use Rattle.expansion.specs.Scopes.{Scope, value_or, at_form, with_special, with_type, declared_in, with_tag}
 use Rattle.expansion.specs.Forms.{is_tag}
 use Rattle.expansion.specs.Expanding.{Bound, with_bound, with_all, with_some, definition_name, with_named, with_definitions, around_definitions, with_tags}
 

@@ -1,5 +1,5 @@
 -- Steps that count nothing.
-use Rattle.std.specs.Prelude.{◌≡◌, ℕ, Bool, true, false, Option, Some, None, refl}
+use Rattle.std.specs.Prelude.{◌≡◌, Bool, true, false, Option, Some, None, refl}
 use Rattle.std.proofs.Common.{◌∙◌, subst}
 use Rattle.expansion.specs.declared.kind.ExpandKind.{ExpandKind}
 use Rattle.expansion.specs.declared.kind.ExpandKind.TheVariants.{BadForm}
@@ -67,6 +67,7 @@ keeps_bind {A = A} {B = B} {m = m} {f = f} h k = record { keeps = λ w. by_answe
     after : {w u : World} → SameCounts w u → (b : Answer B) → Kept u b → Kept w b
     after s (gives b v) t = then_same s t
     after s (refused kind place) t = tt
+
     by_answer : (w : World) (a : Answer A) → Kept w a → Kept w (and_then a f)
     by_answer w (gives a u) s = after s (f a u) ((k a).keeps u)
     by_answer w (refused kind place) s = tt

@@ -1,5 +1,5 @@
 -- What is to be done with a form is found without counting.
-use Rattle.std.specs.Prelude.{◌≡◌, ℕ, Bool, true, false, ◌==◌, if◌then◌else◌, List, [], ◌∷◌, Option, Some, None, refl}
+use Rattle.std.specs.Prelude.{ℕ, Bool, true, false, ◌==◌, if◌then◌else◌, List, [], ◌∷◌, Option, Some, None, refl}
 use Rattle.lisp_base.specs.declared.values.SymId.{SymId}
 use Rattle.lisp_base.specs.declared.values.Val.{Val}
 use Rattle.lisp_base.specs.declared.values.Val.TheVariants.{Int, Char, Sym, Ref}
@@ -16,12 +16,12 @@ use Rattle.expansion.specs.declared.operator.Operator.TheVariants as op
 use Rattle.expansion.specs.declared.heads.Reach.{Reach}
 use Rattle.expansion.specs.Operators.{is_left_out}
 use Rattle.expansion.specs.Scopes.{Scope}
-use Rattle.expansion.specs.Steps.{World, Step}
+use Rattle.expansion.specs.Steps.{Step}
 use Rattle.expansion.specs.Sketches.{Sketch}
 use Rattle.expansion.specs.Bindings.{Contents, declared_or, read_body, contents_of, fresh_by, fresh_symbol, rest_or_fresh, keys_by, make_keys, with_keys, function_with, function_from, function_sketch}
 use Rattle.expansion.specs.Calls.{few, global_call}
 use Rattle.expansion.specs.Forms.{makes_node, quote_plan, lambda_plan, function_plan, setq_plan, if_plan, progn_plan, let_plan, let_in_order_plan, functions_plan, locally_forms, locally_plan, type_in, the_plan, block_plan, return_plan, return_from_plan, tagbody_plan, go_plan, catch_plan, throw_plan, unwind_plan, values_call_plan, keeping_plan, values_plan, funcall_plan, apply_plan, typep_plan, defun_plan, defvar_plan, defparameter_plan, declaim_plan, in_package_plan, operator_plan, operated, expansion_or, macro_plan, called, global_plan, named_plan, lambda_call, lambda_plan_of, symbol_plan, list_plan, plan_of}
-use Rattle.expansion_laws.proofs.KeptCounts.{SameCounts, same, KeepsCounts, keeps_pure, keeps_refuse, keeps_look, keeps_change, keeps_given, keeps_expect, keeps_only, keeps_bind, keeps_then, keeps_looked}
+use Rattle.expansion_laws.proofs.KeptCounts.{KeepsCounts, keeps_pure, keeps_refuse, keeps_look, keeps_change, keeps_given, keeps_expect, keeps_only, keeps_bind, keeps_then, keeps_looked}
 
 -- ---- bodies and functions
 
@@ -229,7 +229,6 @@ defun_kept : (sc : Scope) (arguments : Val) (vs : List Val) → KeepsCounts (def
 unfolding defun_plan
 defun_kept sc arguments [] = keeps_refuse _ _
 defun_kept sc arguments (n ∷ vs) = keeps_bind (keeps_expect _ _) (λ s. keeps_bind (keeps_looked _ (function_kept _ _)) (λ f. (node_kept _)))
-
 
 defvar_kept : (sc : Scope) (vs : List Val) → KeepsCounts (defvar_plan sc vs)
 unfolding defvar_plan

@@ -1,20 +1,19 @@
 -- Whatever tree a form expands to is made step by step.
-use Rattle.std.specs.Prelude.{◌≡◌, ℕ, zero, suc, ◌+◌, Bool, true, false, if◌then◌else◌, List, [], ◌∷◌, length, Option, Some, None, refl}
+use Rattle.std.specs.Prelude.{◌≡◌, ℕ, zero, suc, Bool, true, false, if◌then◌else◌, List, [], ◌∷◌, length, Option, Some, None, refl}
 use Rattle.std.specs.Option.{option_and_then}
 use Rattle.lisp_base.specs.declared.values.SymId.{SymId}
 use Rattle.lisp_base.specs.declared.values.Val.{Val}
 use Rattle.lisp_forms.specs.Conses.{elements}
-use Rattle.core_form.specs.Tree as tree
-use Rattle.core_form.specs.Tree.{Core, Cores, Bindings, Optionals, Lambda, Definitions, Items, no_item, tag, step, define, lambda}
+use Rattle.core_form.specs.Tree.{Core, Cores, Bindings, Optionals, Lambda, Definitions, Items, tag, step, define}
 use Rattle.expansion.specs.declared.heads.Reach.{Reach}
-use Rattle.expansion.specs.Scopes.{Scope, at_form, with_function, with_block, declared_in}
-use Rattle.expansion.specs.Steps.{World, gives, Step, ◌>>=◌, ◌>>◌, pure, refuse, expect, look, begin, inside, most_chain, take_numbers, take_function}
-use Rattle.expansion.specs.Sketches.{Binder, Initial, Optional', Sketch, form, leaf, one, two, choice, many, calling, bind, assign, function, functions, recursive, block, tagbody, within, Sketches, no_sketch, sketch, Function, function_of, checked, Plan, instead, declared_around, makes, unary_node, unary_count, binary_node, many_node, calling_node, leaf_node}
+use Rattle.expansion.specs.Scopes.{Scope, at_form, declared_in}
+use Rattle.expansion.specs.Steps.{World, gives, Step, ◌>>=◌, pure, look, inside, most_chain, take_numbers}
+use Rattle.expansion.specs.Sketches.{Binder, Initial, Optional', Sketch, form, leaf, one, two, choice, many, calling, bind, assign, function, functions, recursive, block, tagbody, within, Sketches, no_sketch, sketch, Function, function_of, Plan, instead, declared_around, makes}
 use Rattle.expansion.specs.Bindings.{function_sketch}
-use Rattle.expansion.specs.Forms.{plan_of, tail_of, is_tag, set_variable}
-use Rattle.expansion.specs.Expanding.{parameter, Bound, bound, bound_each, bound_some, Inner, each, bound_initials, values_bound, bounds_of, binding_node, BoundOptional, bound_optional, bound_optionals, defaults, function_size, function_tree, defined, name_in, definition_at, definitions, around_definitions, functions_tree, functions_node, recursive_node, block_node, tags_in, with_tags, items, tagbody_node, go_on, followed, planned, expand, make, parameters, parameter_some, with_all, with_some, with_bound, with_definitions}
-use Rattle.expansion_laws.specs.Made.{counted, numbered, one_function, MadeBound, made_bound, MadeBounds, no_bounds, more_bounds, MadeSome, made_none, made_some, MadeInitials, no_initials, more_initials, MadeOptionals, no_optionals, more_optionals, MadeForm, made_instead, made_around, made_makes, Made, made_form, made_leaf, made_one, made_two, made_choice, made_many, made_calling, made_bind, made_assign, made_function, made_functions, made_recursive, made_block, made_tagbody, made_within, MadeEach, no_parts, more_parts, MadeValues, no_values, more_values, MadeDefaults, no_defaults, more_defaults, MadeLambda, made_lambda, MadeDefinitions, no_definitions, more_definitions, MadeItems, no_items, one_tag, one_step, TreesAreMade}
-use Rattle.expansion_laws.proofs.Stepping.{over, ends, never_refused, Both, both, looked, Found, found, Began, began, began_numbers, took_function}
+use Rattle.expansion.specs.Forms.{plan_of, tail_of, is_tag}
+use Rattle.expansion.specs.Expanding.{parameter, Bound, bound, bound_each, bound_some, Inner, each, bound_initials, values_bound, binding_node, BoundOptional, bound_optional, bound_optionals, defaults, function_size, function_tree, name_in, definition_at, definitions, functions_tree, functions_node, recursive_node, block_node, tags_in, with_tags, items, tagbody_node, go_on, followed, planned, expand, make, with_all, with_some, with_bound}
+use Rattle.expansion_laws.specs.Made.{counted, one_function, MadeBound, made_bound, MadeBounds, no_bounds, more_bounds, MadeSome, made_none, made_some, MadeInitials, no_initials, more_initials, MadeOptionals, no_optionals, more_optionals, MadeForm, made_instead, made_around, made_makes, Made, made_form, made_leaf, made_one, made_two, made_choice, made_many, made_calling, made_bind, made_assign, made_function, made_functions, made_recursive, made_block, made_tagbody, made_within, MadeEach, no_parts, more_parts, MadeValues, no_values, more_values, MadeDefaults, no_defaults, more_defaults, MadeLambda, made_lambda, MadeDefinitions, no_definitions, more_definitions, MadeItems, no_items, one_tag, one_step, TreesAreMade}
+use Rattle.expansion_laws.proofs.Stepping.{over, ends, never_refused, both, looked, found, began, began_numbers, took_function}
 
 -- ---- variables
 

@@ -1,6 +1,6 @@
 -- Where all places are one, all nodes and functions of a tree stand there.
 use Rattle.std.specs.Prelude.{◌≡◌, ℕ, zero, suc, ◌<◌, List, [], ◌∷◌, ◌++◌, All, Option, Some, None, slice_index_or, refl}
-use Rattle.std.proofs.Common.{arith, sym}
+use Rattle.std.proofs.Common.{arith}
 use Rattle.std.proofs.lemmas.List.Elements.{All-append}
 use Rattle.lisp_base.specs.declared.values.Place.{Place}
 use Rattle.lisp_base.specs.declared.values.SymId.{SymId}
@@ -16,7 +16,6 @@ use Rattle.expansion.specs.declared.heads.Many.{Many}
 use Rattle.expansion.specs.declared.heads.Many.TheVariants.{Sequence, CallingLocal, CallingGlobal, Operating, GivingValues}
 use Rattle.expansion.specs.declared.heads.Calling.{Calling}
 use Rattle.expansion.specs.declared.heads.Calling.TheVariants.{Funcalling, Applying, CallingWithValues}
-use Rattle.expansion.specs.declared.heads.Reach.{Reach}
 use Rattle.expansion.specs.Scopes.{Scope}
 use Rattle.expansion.specs.Steps.{World}
 use Rattle.expansion.specs.Sketches.{leaf_node, Unary, SettingLocal, SettingGlobal, SettingFunction, Testing, Checking, Returning, unary_node, binary_node, many_node, calling_node, Sketch, Sketches}
@@ -100,6 +99,7 @@ calling_node_at CallingWithValues q e es h k l = then_at h (both_at k l)
 
 mutual
   unfolding gather
+
   pub form_at : {sc : Scope} {v : Val} {w after : World} {e : Core} {p : Place} → MadeForm sc v w e after → IsFixed p sc → At p (places_in e)
   form_at (made_instead {v = v} {w = w} plan h) f = form_at h (fixed_at w.heap v f)
   form_at (made_around {v = v} {w = w} {d = d} plan h) f = form_at h (fixed_declared d (fixed_at w.heap v f))

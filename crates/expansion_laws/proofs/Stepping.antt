@@ -1,6 +1,6 @@
 -- What a step did that gave a result.
 use Rattle.std.specs.Prelude.{◌≡◌, ℕ, zero, suc, ◌+◌, ◌≤◌, Bool, true, false, nat_le, Option, Some, None, refl}
-use Rattle.std.proofs.Common.{ap, subst, sym, arith}
+use Rattle.std.proofs.Common.{subst, arith}
 use Rattle.std.proofs.lemmas.Bool.Decides.{nat_tests}
 use Rattle.expansion.specs.declared.kind.ExpandKind.{ExpandKind}
 use Rattle.expansion.specs.Scopes.{Scope}
