@@ -11,3 +11,11 @@ pub mod CheckedPlans
 pub mod CheckedNodes
 pub mod CheckedParts
 pub mod CheckedMaking
+pub mod Stepping
+pub mod Making
+pub mod KeptCounts
+pub mod KeptPlans
+pub mod Counted
+pub mod Counting
+pub mod Fixed
+pub mod Placed

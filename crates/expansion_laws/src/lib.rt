@@ -3,7 +3,9 @@
 #![tactic(auto)]
 
 mod checked_trees;
+mod made_trees;
 mod plans;
 
 pub use checked_trees::{symbols_have_functions, trees_are_checked};
+pub use made_trees::{trees_are_counted, trees_are_made, trees_stay_in_place};
 pub use plans::plans_are_derived;
