@@ -1,0 +1,611 @@
+-- The form that a macro form gives is there: each row of the table of macros puts words, arguments and their parts together.
+use Rattle.std.specs.Prelude.{◌≡◌, refl, ℕ, zero, suc, ◌+◌, ◌<◌, ◌||◌, pos, Bool, true, false, not, List, [], ◌∷◌, ◌++◌, length, map, reverse, find, Option, Some, None, if◌then◌else◌}
+use Rattle.std.specs.List.{list_all, flat_map}
+use Rattle.std.specs.Option.{option_map, option_and_then, is_some}
+use Rattle.std.proofs.Common.{arith}
+use Rattle.lisp_base.specs.declared.values.Val.{Val}
+use Rattle.lisp_base.specs.declared.values.Val.TheVariants.{Int, Char, Sym, Ref}
+use Rattle.lisp_base.specs.Sort.{nil}
+use Rattle.lisp_base.specs.Membership.{is_symbol}
+use Rattle.lisp_base.specs.Tables.{Table, Object}
+use Rattle.lisp_forms.specs.Conses.{cons_at, elements, is_nil, place_at}
+use Rattle.lisp_forms.specs.Trees.{Tree, form, fresh, inner, listed, trees, list, list_before}
+use Rattle.lisp_forms.specs.Building.{built}
+use Rattle.std_macros.specs.declared.words.Word.{Word}
+use Rattle.std_macros.specs.declared.words.Word.TheVariants as w
+use Rattle.std_macros.specs.declared.macros.Macro.{Macro}
+use Rattle.std_macros.specs.declared.macros.Macro.TheVariants as m
+use Rattle.std_macros.specs.declared.cases.Choice.{Choice}
+use Rattle.std_macros.specs.declared.cases.Choice.TheVariants.{ByKey, ByType}
+use Rattle.std_macros.specs.declared.loops.Order.{Order}
+use Rattle.std_macros.specs.declared.loops.Order.TheVariants.{Together, InOrder}
+use Rattle.std_macros.specs.declared.loops.Step.{Step}
+use Rattle.std_macros.specs.declared.loops.Repeat.{Repeat}
+use Rattle.std_macros.specs.Rules.{Expansion, expansion, plain, word, nil_form, forms, call, one, two, three, binding, let_form, kept, nil_block, fresh_from, fresh_bindings, fresh_sets}
+use Rattle.std_macros.specs.Syntax.{is_word, each, pairs, all_symbols, only_of, marked, is_string, is_declaration, undocumented, Parts, parts, with_declaration, parted, body_parts}
+use Rattle.std_macros.specs.Conditionals.{and_row, or_row, clause_row, cond_row, when_row, unless_row}
+use Rattle.std_macros.specs.Cases.{Clause, clause, keys_by, tests_at, clause_with, clause_at, is_default, test_type, clause_form, choice, before_default, open_choice, case_row, tests_of, gathered, all_tests, exhaustive_row}
+use Rattle.std_macros.specs.Loops.{go_to, loop_row, step, step_from, step_at, step_binding, next_value, step_sets, binder, setter, end_test, do_round, do_form, do_with, do_row, repeat, repeat_from, number, count_round, dotimes_bindings, dotimes_form, dotimes_row, the_list, list_test, list_body, list_round, dolist_form, dolist_row}
+use Rattle.std_macros.specs.Bindings.{return_row, prog_form, prog_row, kept_form, prog1_row, prog2_row, psetq_form, psetq_with, psetq_row}
+use Rattle.std_macros.specs.Places.{Target, variable, access, writer_of, target_from, target_at, read_form, write_form, store_form, setf_target, setf_forms, setf_each, setf_row, change_target, change_row, push_target, push_row, popped_form, pop_target, pop_row}
+use Rattle.std_macros.specs.ManyValues.{receive_form, bind_values, bind_values_row, list_values_row, set_form, set_values, set_values_row, nth_value_row, lambda_row}
+use Rattle.std_macros.specs.Quasiquotes.{under, joined, quasi_parts, quasi_form, quasiquote_row}
+use Rattle.std_macros.specs.Expanding.{row, rest_by, rest_of, arguments_row, fresh_symbols, built_around, Expanded, gives, bad, full, with_heap, with_symbols, expanded_by, arguments_of, expanded, macro_of_form, expanded_as, expanded_form}
+use Rattle.expansion_laws.specs.There.{Stores, stores, SymbolIsThere, IsThere, AreSound, Grown, Each, no_more, one_more}
+use Rattle.expansion_laws.proofs.ThereLists.{Where, nothing_there, found_there, where_then, where_map, where_if, where_passed, each_map, each_append, each_head, each_tail, each_mapped, each_flat, each_reversed}
+use Rattle.expansion_laws.proofs.ThereStores.{PairIsThere, ValuesAreThere, grown_on, value_stays, values_stay, nil_there, number_there, cons_there, elements_there}
+use Rattle.expansion_laws.proofs.ThereBuilding.{Made, FormsAreThere, form_there, fresh_there, inner_there, list_there, forms_stay, all_trees_there, tree_built, around_built, fresh_symbols_made, FreshMade}
+use Rattle.expansion_laws.proofs.ThereWords.{word_value_there}
+
+abbrev pub TreesAreThere : Stores → List Tree → Type 0
+TreesAreThere s xs = Each (FormsAreThere s) xs
+
+pub record ExpansionIsThere (s : Stores) (x : Expansion) : Type 0 where
+  pub first : FormsAreThere s x.first
+  pub around : TreesAreThere s x.around
+
+pub plainly : {s : Stores} {x : Tree} (n : ℕ) → FormsAreThere s x → ExpansionIsThere s (plain n x)
+plainly n h = record { first = h; around = no_more }
+
+-- two things that are there
+both : {s : Stores} {x y : Tree} → FormsAreThere s x → FormsAreThere s y → TreesAreThere s (x ∷ y ∷ [])
+both h k = one_more h (one_more k no_more)
+
+just : {s : Stores} {x : Tree} → FormsAreThere s x → TreesAreThere s (x ∷ [])
+just h = one_more h no_more
+
+-- ---- trees of words and forms
+
+module _ (s : Stores) (sound : AreSound s) where
+  a_word : (x : Word) → FormsAreThere s (word x)
+  a_word x = form_there (word_value_there sound x)
+
+  a_list : (xs : List Tree) → TreesAreThere s xs → FormsAreThere s (list xs)
+  a_list xs h = list_there (all_trees_there h) (nil_there sound)
+
+  a_list_before : (xs : List Tree) (tail : Val) → TreesAreThere s xs → IsThere s tail → FormsAreThere s (list_before xs tail)
+  a_list_before xs tail h k = list_there (all_trees_there h) k
+
+  the_forms : {vs : List Val} → ValuesAreThere s vs → TreesAreThere s (forms vs)
+  the_forms h = each_mapped form (λ v k. form_there k) h
+
+  a_call : (x : Word) {vs : List Val} → ValuesAreThere s vs → FormsAreThere s (call x vs)
+  a_call x h = a_list _ (one_more (a_word x) (the_forms h))
+
+  of_one : (x : Word) {a : Tree} → FormsAreThere s a → FormsAreThere s (one x a)
+  of_one x h = a_list _ (both (a_word x) h)
+
+  of_two : (x : Word) {a b : Tree} → FormsAreThere s a → FormsAreThere s b → FormsAreThere s (two x a b)
+  of_two x h k = a_list _ (one_more (a_word x) (both h k))
+
+  of_three : (x : Word) {a b c : Tree} → FormsAreThere s a → FormsAreThere s b → FormsAreThere s c → FormsAreThere s (three x a b c)
+  of_three x h k l = a_list _ (one_more (a_word x) (one_more h (both k l)))
+
+  a_binding : {v e : Tree} → FormsAreThere s v → FormsAreThere s e → FormsAreThere s (binding v e)
+  a_binding h k = a_list _ (both h k)
+
+  a_let : (bindings body : List Tree) → TreesAreThere s bindings → TreesAreThere s body → FormsAreThere s (let_form bindings body)
+  a_let bindings body h k = a_list _ (one_more (a_word w.Let) (one_more (a_list bindings h) k))
+
+  a_kept : (a : Val) (body : List Tree) → IsThere s a → TreesAreThere s body → FormsAreThere s (kept a body)
+  a_kept a body h k = a_let _ body (just (a_binding fresh_there (form_there h))) k
+
+  a_block : {x : Tree} → FormsAreThere s x → FormsAreThere s (nil_block x)
+  a_block h = of_two w.Block (a_word w.Nil) h
+
+  fresh_ones : (n count : ℕ) → TreesAreThere s (fresh_from n count)
+  fresh_ones n zero = no_more
+  fresh_ones n (suc count) = one_more fresh_there (fresh_ones (n + 1) count)
+
+  bound_fresh : (n : ℕ) {es : List Val} → ValuesAreThere s es → TreesAreThere s (fresh_bindings n es)
+  bound_fresh n no_more = no_more
+  bound_fresh n (one_more h hs) = one_more (a_binding fresh_there (form_there h)) (bound_fresh (n + 1) hs)
+
+  set_fresh : (n : ℕ) {vs : List Val} → ValuesAreThere s vs → TreesAreThere s (fresh_sets n vs)
+  set_fresh n no_more = no_more
+  set_fresh n (one_more h hs) = one_more (of_two w.Setq (form_there h) fresh_there) (set_fresh (n + 1) hs)
+
+  -- ---- parts of arguments
+
+  each_there : {A : Type 0} {Q : A → Type 0} (f : Val → Option A) {vs : List Val} → ((v : Val) → IsThere s v → Where Q (f v)) → ValuesAreThere s vs → Where (Each Q) (each f vs)
+  each_there f k no_more = found_there no_more
+  each_there f k (one_more h hs) = where_then _ (k _ h) (λ y i. where_map _ (each_there f k hs) (λ ys j. one_more i j))
+
+  abbrev PairsAreThere : List Val × List Val → Type 0
+  PairsAreThere p = ValuesAreThere s p.0 × ValuesAreThere s p.1
+
+  pairs_there : (vs : List Val) → ValuesAreThere s vs → Where PairsAreThere (pairs vs)
+  pairs_there [] h = found_there (no_more, no_more)
+  pairs_there (a ∷ []) h = nothing_there
+  pairs_there (a ∷ b ∷ others) (one_more h (one_more k ks)) = where_map _ (pairs_there others ks) (λ p i. (one_more h i.0, one_more k i.1))
+
+  only_there : (v : Val) → Where (IsThere s) (only_of s.heap v)
+  only_there v = where_then _ (cons_there s sound v) (λ p h. where_if (is_nil p.1) _ _ (found_there h.0) nothing_there)
+
+  marked_there : (x : Word) (v : Val) → Where (IsThere s) (marked x s.heap v)
+  marked_there x v = where_then _ (cons_there s sound v) (λ p h. where_if (is_word x p.0) _ _ (only_there p.1) nothing_there)
+
+  pub record PartsAreThere (b : Parts) : Type 0 where
+    pub declarations : ValuesAreThere s b.declarations
+    pub rest : ValuesAreThere s b.rest
+
+  parted_there : {vs : List Val} → ValuesAreThere s vs → PartsAreThere (parted s.heap vs)
+  parted_there no_more = record { declarations = no_more; rest = no_more }
+  parted_there (one_more {x = v} {xs = vs} k ks) = by (is_declaration s.heap v) (parted_there ks)
+    where
+      by : (b : Bool) → PartsAreThere (parted s.heap vs) → PartsAreThere (if b then with_declaration v (parted s.heap vs) else parts [] (v ∷ vs))
+      by true h = record { declarations = one_more k h.declarations; rest = h.rest }
+      by false h = record { declarations = no_more; rest = one_more k ks }
+
+  undocumented_there : {vs : List Val} → ValuesAreThere s vs → ValuesAreThere s (undocumented s.heap vs)
+  undocumented_there no_more = no_more
+  undocumented_there (one_more k no_more) = one_more k no_more
+  undocumented_there (one_more {x = v} k (one_more {x = x} {xs = xs} i is)) = by (is_string s.heap v)
+    where
+      by : (b : Bool) → ValuesAreThere s (if b then x ∷ xs else v ∷ x ∷ xs)
+      by true = one_more i is
+      by false = one_more k (one_more i is)
+
+  body_there : {vs : List Val} → ValuesAreThere s vs → PartsAreThere (body_parts s.heap vs)
+  body_there h = parted_there (undocumented_there h)
+
+  -- ---- AND, OR, COND, WHEN, UNLESS
+
+  and_there : (rest : Val) (vs : List Val) → IsThere s rest → ValuesAreThere s vs → Where (ExpansionIsThere s) (and_row rest vs)
+  and_there rest [] r h = found_there (plainly 0 (a_word w.T))
+  and_there rest (a ∷ []) r (one_more h hs) = found_there (plainly 0 (form_there h))
+  and_there rest (a ∷ b ∷ others) r (one_more h hs) = found_there (plainly 0 (of_three w.If (form_there h) (a_list_before _ rest (just (a_word w.And)) r) (a_word w.Nil)))
+
+  or_there : (rest : Val) (vs : List Val) → IsThere s rest → ValuesAreThere s vs → Where (ExpansionIsThere s) (or_row rest vs)
+  or_there rest [] r h = found_there (plainly 0 (a_word w.Nil))
+  or_there rest (a ∷ []) r (one_more h hs) = found_there (plainly 0 (form_there h))
+  or_there rest (a ∷ b ∷ others) r (one_more h hs) =
+      found_there (plainly 1 (a_kept a _ h (just (of_three w.If fresh_there fresh_there (a_list_before _ rest (just (a_word w.Or)) r)))))
+
+  clause_there : (rest : Val) (vs : List Val) → IsThere s rest → ValuesAreThere s vs → Where (ExpansionIsThere s) (clause_row rest vs)
+  clause_there rest [] r h = nothing_there
+  clause_there rest (a ∷ []) r (one_more h hs) = found_there (plainly 0 (of_two w.Or (form_there h) (a_list_before _ rest (just (a_word w.Cond)) r)))
+  clause_there rest (a ∷ e ∷ es) r (one_more h hs) =
+      found_there (plainly 0 (of_three w.If (form_there h) (a_call w.Progn hs) (a_list_before _ rest (just (a_word w.Cond)) r)))
+
+  cond_there : (rest : Val) (vs : List Val) → IsThere s rest → ValuesAreThere s vs → Where (ExpansionIsThere s) (cond_row s.heap rest vs)
+  cond_there rest [] r h = found_there (plainly 0 (a_word w.Nil))
+  cond_there rest (c ∷ others) r h = where_then _ (elements_there s sound c) (λ vs k. clause_there rest vs r k)
+
+  when_there : (vs : List Val) → ValuesAreThere s vs → Where (ExpansionIsThere s) (when_row vs)
+  when_there [] h = nothing_there
+  when_there (a ∷ es) (one_more h hs) = found_there (plainly 0 (of_three w.If (form_there h) (a_call w.Progn hs) (a_word w.Nil)))
+
+  unless_there : (vs : List Val) → ValuesAreThere s vs → Where (ExpansionIsThere s) (unless_row vs)
+  unless_there [] h = nothing_there
+  unless_there (a ∷ es) (one_more h hs) = found_there (plainly 0 (of_three w.If (form_there h) (a_word w.Nil) (a_call w.Progn hs)))
+
+  -- ---- RETURN, PROG, PROG*, PROG1, PROG2, PSETQ
+
+  return_there : (vs : List Val) → ValuesAreThere s vs → Where (ExpansionIsThere s) (return_row vs)
+  return_there [] h = found_there (plainly 0 (of_two w.ReturnFrom (a_word w.Nil) (a_word w.Nil)))
+  return_there (e ∷ []) (one_more h hs) = found_there (plainly 0 (of_two w.ReturnFrom (a_word w.Nil) (form_there h)))
+  return_there (e ∷ x ∷ xs) h = nothing_there
+
+  prog_there : (order : Order) (vs : List Val) → ValuesAreThere s vs → Where (ExpansionIsThere s) (prog_row order s.heap vs)
+  prog_there order [] h = nothing_there
+  prog_there order (bindings ∷ body) (one_more h hs) =
+      let b = body_there hs in
+      found_there (plainly 0 (a_block (a_list _ (one_more (a_word (binder order)) (one_more (form_there h) (each_append (the_forms b.declarations) (just (a_call w.Tagbody b.rest))))))))
+
+  kept_there : {a : Val} {es : List Val} → IsThere s a → ValuesAreThere s es → FormsAreThere s (kept_form a es)
+  kept_there h hs = a_kept _ _ h (both (a_call w.Progn hs) fresh_there)
+
+  prog1_there : (vs : List Val) → ValuesAreThere s vs → Where (ExpansionIsThere s) (prog1_row vs)
+  prog1_there [] h = nothing_there
+  prog1_there (a ∷ es) (one_more h hs) = found_there (plainly 1 (kept_there h hs))
+
+  prog2_there : (vs : List Val) → ValuesAreThere s vs → Where (ExpansionIsThere s) (prog2_row vs)
+  prog2_there [] h = nothing_there
+  prog2_there (a ∷ []) h = nothing_there
+  prog2_there (a ∷ b ∷ es) (one_more h (one_more k ks)) = found_there (plainly 1 (of_two w.Progn (form_there h) (kept_there k ks)))
+
+  psetq_there : (vs : List Val) → ValuesAreThere s vs → Where (ExpansionIsThere s) (psetq_row vs)
+  psetq_there vs h =
+      where_then psetq_with (pairs_there vs h) (λ p k. where_if (all_symbols p.0) _ _ (found_there (plainly (length p.0) (a_let _ _ (bound_fresh 0 k.1) (both (a_list _ (one_more (a_word w.Progn) (set_fresh 0 k.0))) (a_word w.Nil))))) nothing_there)
+
+  -- ---- CASE, ECASE, TYPECASE, ETYPECASE
+
+  pub record ClauseIsThere (c : Clause) : Type 0 where
+    pub tests : ValuesAreThere s c.tests
+    pub body : ValuesAreThere s c.body
+
+  keys_there : (o : Option (Val × Val)) (v : Val) → IsThere s v → Where (ValuesAreThere s) (keys_by o s.heap v)
+  keys_there (Some p) v h = elements_there s sound v
+  keys_there None v h = where_if (is_nil v) _ _ (found_there no_more) (found_there (one_more h no_more))
+
+  tests_there : (by : Choice) (v : Val) → IsThere s v → Where (ValuesAreThere s) (tests_at by s.heap v)
+  tests_there ByKey v h = keys_there (cons_at s.heap v) v h
+  tests_there ByType v h = found_there (one_more h no_more)
+
+  clause_from_there : (by : Choice) (vs : List Val) → ValuesAreThere s vs → Where ClauseIsThere (clause_with by s.heap vs)
+  clause_from_there by [] h = nothing_there
+  clause_from_there by (head ∷ body) (one_more h hs) = where_map _ (tests_there by head h) (λ tests k. record { tests = k; body = hs })
+
+  clause_at_there : (by : Choice) (v : Val) → IsThere s v → Where ClauseIsThere (clause_at by s.heap v)
+  clause_at_there by v h = where_then _ (elements_there s sound v) (clause_from_there by)
+
+  test_there : (by : Choice) (tests : List Val) → ValuesAreThere s tests → FormsAreThere s (test_type by tests)
+  test_there ByKey tests h = a_call w.Member h
+  test_there ByType [] h = a_word w.Nil
+  test_there ByType (type ∷ others) (one_more h hs) = form_there h
+
+  clause_form_there : (by : Choice) (c : Clause) → ClauseIsThere c → FormsAreThere s (clause_form by c)
+  clause_form_there by c h = of_three w.If (of_two w.Typep fresh_there (of_one w.Quote (test_there by c.tests h.tests))) (a_call w.Progn h.body) inner_there
+
+  choice_there : (by : Choice) (a : Val) (end : Tree) {clauses : List Clause} → IsThere s a → FormsAreThere s end → Each ClauseIsThere clauses → ExpansionIsThere s (choice by a end clauses)
+  choice_there by a end h k cs = record {
+    first = k;
+    around = each_append (each_reversed (each_mapped (clause_form by) (clause_form_there by) cs)) (just (a_kept a _ h (just inner_there)));
+  }
+
+  abbrev SplitIsThere : List Clause × Tree → Type 0
+  SplitIsThere p = Each ClauseIsThere p.0 × FormsAreThere s p.1
+
+  split_there : (cs : List Clause) → Each ClauseIsThere cs → SplitIsThere (before_default cs)
+  split_there [] h = (no_more, a_word w.Nil)
+  split_there (c ∷ []) (one_more h hs) = by (is_default c.head)
+    where
+      by : (b : Bool) → SplitIsThere (if b then ([], call w.Progn c.body) else (c ∷ [], nil_form))
+      by true = (no_more, a_call w.Progn h.body)
+      by false = (one_more h no_more, a_word w.Nil)
+  split_there (c ∷ d ∷ ds) (one_more h hs) = let k = split_there (d ∷ ds) hs in (one_more h k.0, k.1)
+
+  case_there : (by : Choice) (vs : List Val) → ValuesAreThere s vs → Where (ExpansionIsThere s) (case_row by s.heap vs)
+  case_there by [] h = nothing_there
+  case_there by (a ∷ cs) (one_more h hs) = where_then _ (each_there (clause_at by s.heap) (clause_at_there by) hs) (λ clauses k. open_there clauses (split_there clauses k))
+    where
+      open_there : (clauses : List Clause) → SplitIsThere (before_default clauses) → Where (ExpansionIsThere s) (open_choice by a (before_default clauses))
+      open_there clauses k = where_if (list_all (λ c. not (is_default c.head)) (before_default clauses).0) _ _ (found_there (choice_there by a _ h k.1 k.0)) nothing_there
+
+  tests_of_there : {clauses : List Clause} → Each ClauseIsThere clauses → TreesAreThere s (tests_of clauses)
+  tests_of_there no_more = no_more
+  tests_of_there (one_more h hs) = each_append (the_forms h.tests) (tests_of_there hs)
+
+  exhaustive_there : (by : Choice) (vs : List Val) → ValuesAreThere s vs → Where (ExpansionIsThere s) (exhaustive_row by s.heap vs)
+  exhaustive_there by [] h = nothing_there
+  exhaustive_there by (a ∷ cs) (one_more h hs) =
+      where_map _ (each_there (clause_at by s.heap) (clause_at_there by) hs) (λ clauses k. choice_there by a _ h (of_two w.The (a_list _ (one_more (a_word (gathered by)) (tests_of_there k))) fresh_there) k)
+
+  -- ---- LOOP, DO, DO*, DOTIMES, DOLIST
+
+  a_jump : {g : Tree} → FormsAreThere s g → FormsAreThere s (go_to g)
+  a_jump h = of_one w.Go h
+
+  loop_there : (vs : List Val) → ValuesAreThere s vs → Where (ExpansionIsThere s) (loop_row s.heap vs)
+  loop_there vs h =
+      where_if (list_all (λ e. is_some (cons_at s.heap e)) vs) _ _
+      (found_there (plainly 1 (a_block (a_list _ (one_more (a_word w.Tagbody) (one_more fresh_there (each_append (the_forms h) (just (a_jump fresh_there)))))))))
+      nothing_there
+
+  pub record StepIsThere (x : Step) : Type 0 where
+    pub variable : IsThere s x.variable
+    pub first : IsThere s x.first
+    pub next : Where (IsThere s) x.next
+
+  a_step : (v first : Val) (next : Option Val) → IsThere s v → IsThere s first → Where (IsThere s) next → Where StepIsThere (step v first next)
+  a_step v first next h k l = where_if (is_symbol v) _ _ (found_there (record { variable = h; first = k; next = l })) nothing_there
+
+  step_there : (vs : List Val) → ValuesAreThere s vs → Where StepIsThere (step_from vs)
+  step_there [] h = nothing_there
+  step_there (v ∷ []) (one_more h hs) = a_step v nil None h (nil_there sound) nothing_there
+  step_there (v ∷ e ∷ []) (one_more h (one_more k ks)) = a_step v e None h k nothing_there
+  step_there (v ∷ e ∷ n ∷ []) (one_more h (one_more k (one_more l ls))) = a_step v e (Some n) h k (found_there l)
+  step_there (v ∷ e ∷ n ∷ x ∷ xs) h = nothing_there
+
+  step_at_there : (v : Val) → IsThere s v → Where StepIsThere (step_at s.heap v)
+  step_at_there v h = where_if (is_symbol v) _ _ (a_step v nil None h (nil_there sound) nothing_there) (where_then step_from (elements_there s sound v) step_there)
+
+  bindings_there : {steps : List Step} → Each StepIsThere steps → TreesAreThere s (map step_binding steps)
+  bindings_there h = each_mapped step_binding (λ x k. a_binding (form_there k.variable) (form_there k.first)) h
+
+  next_there : (v : Val) (next : Option Val) → IsThere s v → Where (IsThere s) next → TreesAreThere s (next_value v next)
+  next_there v None h k = no_more
+  next_there v (Some n) h (found_there k) = both (form_there h) (form_there k)
+
+  sets_there : {steps : List Step} → Each StepIsThere steps → TreesAreThere s (flat_map step_sets steps)
+  sets_there h = each_flat step_sets (λ x k. next_there x.variable x.next k.variable k.next) h
+
+  end_there : (end : Val) (results : List Val) → IsThere s end → ValuesAreThere s results → FormsAreThere s (end_test end results)
+  end_there end results h hs = of_three w.If (form_there h) (of_one w.Return (a_call w.Progn hs)) (a_word w.Nil)
+
+  round_there : (order : Order) (steps : List Step) (test : Tree) (body : List Val) → Each StepIsThere steps → FormsAreThere s test → ValuesAreThere s body → FormsAreThere s (do_round order steps test body)
+  round_there order steps test body h k l =
+      a_list _ (one_more (a_word w.Tagbody) (one_more fresh_there (one_more k (each_append (the_forms l)
+      (both (a_list _ (one_more (a_word (setter order)) (sets_there h))) (a_jump fresh_there))))))
+
+  do_form_there : (order : Order) (steps : List Step) (test : Tree) (body : Parts) → Each StepIsThere steps → FormsAreThere s test → PartsAreThere body → FormsAreThere s (do_form order steps test body)
+  do_form_there order steps test body h k b =
+      a_block (a_list _ (one_more (a_word (binder order)) (one_more (a_list _ (bindings_there h)) (each_append (the_forms b.declarations) (just (round_there order steps test body.rest h k b.rest))))))
+
+  do_with_there : (order : Order) (body : List Val) (steps : List Step) (vs : List Val) → ValuesAreThere s body → Each StepIsThere steps → ValuesAreThere s vs → Where (ExpansionIsThere s) (do_with order s.heap body steps vs)
+  do_with_there order body steps [] b h hs = nothing_there
+  do_with_there order body steps (end ∷ results) b h (one_more k ks) = found_there (plainly 1 (do_form_there order steps _ _ h (end_there end results k ks) (body_there b)))
+
+  do_there : (order : Order) (vs : List Val) → ValuesAreThere s vs → Where (ExpansionIsThere s) (do_row order s.heap vs)
+  do_there order [] h = nothing_there
+  do_there order (bindings ∷ []) h = nothing_there
+  do_there order (bindings ∷ ending ∷ body) (one_more h (one_more k ks)) =
+      where_then _ (where_then (each (step_at s.heap)) (elements_there s sound bindings) (λ vs i. each_there (step_at s.heap) step_at_there i))
+      (λ steps i. where_then _ (elements_there s sound ending) (λ vs j. do_with_there order body steps vs ks i j))
+
+  pub record RepeatIsThere (x : Repeat) : Type 0 where
+    pub variable : IsThere s x.variable
+    pub over : IsThere s x.over
+    pub result : IsThere s x.result
+
+  a_repeat : (v e r : Val) → IsThere s v → IsThere s e → IsThere s r → Where RepeatIsThere (repeat v e r)
+  a_repeat v e r h k l = where_if (is_symbol v) _ _ (found_there (record { variable = h; over = k; result = l })) nothing_there
+
+  repeat_there : (vs : List Val) → ValuesAreThere s vs → Where RepeatIsThere (repeat_from vs)
+  repeat_there [] h = nothing_there
+  repeat_there (v ∷ []) h = nothing_there
+  repeat_there (v ∷ e ∷ []) (one_more h (one_more k ks)) = a_repeat v e nil h k (nil_there sound)
+  repeat_there (v ∷ e ∷ r ∷ []) (one_more h (one_more k (one_more l ls))) = a_repeat v e r h k l
+  repeat_there (v ∷ e ∷ r ∷ x ∷ xs) h = nothing_there
+
+  repeat_at_there : (v : Val) → Where RepeatIsThere (option_and_then repeat_from (elements s.heap v))
+  repeat_at_there v = where_then repeat_from (elements_there s sound v) repeat_there
+
+  a_number : (n : ℕ) → n < 2 → FormsAreThere s (number n)
+  a_number n lt = form_there (number_there sound n lt)
+
+  count_there : (r : Repeat) (body : List Val) → RepeatIsThere r → ValuesAreThere s body → FormsAreThere s (count_round r body)
+  count_there r body h b =
+      a_list _ (one_more (a_word w.Tagbody) (one_more fresh_there (one_more
+      (of_three w.If (of_two w.NotLess (form_there h.variable) fresh_there) (of_one w.Return (form_there h.result)) (a_word w.Nil))
+      (each_append (the_forms b) (both (of_two w.Setq (form_there h.variable) (of_two w.Add (form_there h.variable) (a_number 1 (omega arith)))) (a_jump fresh_there))))))
+
+  dotimes_form_there : (r : Repeat) (body : Parts) → RepeatIsThere r → PartsAreThere body → FormsAreThere s (dotimes_form r body)
+  dotimes_form_there r body h b =
+      a_block (a_let _ _
+      (both (a_binding (form_there h.variable) (a_number 0 (omega arith))) (a_binding fresh_there (of_two w.The (a_word w.Integer) (form_there h.over))))
+      (each_append (the_forms b.declarations) (just (count_there r body.rest h b.rest))))
+
+  dotimes_there : (vs : List Val) → ValuesAreThere s vs → Where (ExpansionIsThere s) (dotimes_row s.heap vs)
+  dotimes_there [] h = nothing_there
+  dotimes_there (head ∷ body) (one_more h hs) = where_map _ (repeat_at_there head) (λ r k. plainly 2 (dotimes_form_there r _ k (body_there hs)))
+
+  of_list_type : {e : Tree} → FormsAreThere s e → FormsAreThere s (the_list e)
+  of_list_type h = of_two w.The (a_word w.List) h
+
+  list_test_there : (r : Repeat) → RepeatIsThere r → FormsAreThere s (list_test r)
+  list_test_there r h =
+      of_three w.If fresh_there (a_word w.Nil) (of_one w.Return (a_let _ _ (just (a_binding (form_there h.variable) (a_word w.Nil))) (just (form_there h.result))))
+
+  list_body_there : (r : Repeat) (body : Parts) → RepeatIsThere r → PartsAreThere body → FormsAreThere s (list_body r body)
+  list_body_there r body h b =
+      a_let _ _ (just (a_binding (form_there h.variable) (of_one w.Car fresh_there))) (each_append (the_forms b.declarations) (just (a_call w.Tagbody b.rest)))
+
+  list_round_there : (r : Repeat) (body : Parts) → RepeatIsThere r → PartsAreThere body → FormsAreThere s (list_round r body)
+  list_round_there r body h b =
+      a_list _ (one_more (a_word w.Tagbody) (one_more fresh_there (one_more (list_test_there r h) (one_more (list_body_there r body h b)
+      (both (of_two w.Setq fresh_there (of_list_type (of_one w.Cdr fresh_there))) (a_jump fresh_there))))))
+
+  dolist_there : (vs : List Val) → ValuesAreThere s vs → Where (ExpansionIsThere s) (dolist_row s.heap vs)
+  dolist_there [] h = nothing_there
+  dolist_there (head ∷ body) (one_more h hs) =
+      where_map _ (repeat_at_there head) (λ r k. plainly 2 (a_block (a_let _ _ (just (a_binding fresh_there (of_list_type (form_there k.over)))) (just (list_round_there r _ k (body_there hs))))))
+
+  -- ---- SETF, INCF, DECF, PUSH, POP
+
+  pub data TargetIsThere : Target → Type 0 where
+    a_variable : {v : Val} → IsThere s v → TargetIsThere (variable v)
+    an_access : {op : Val} {writer : Word} {args : List Val} → IsThere s op → ValuesAreThere s args → TargetIsThere (access op writer args)
+
+  target_there : (vs : List Val) → ValuesAreThere s vs → Where TargetIsThere (target_from vs)
+  target_there [] h = nothing_there
+  target_there (op ∷ args) (one_more h hs) = by (writer_of op)
+    where
+      by : (o : Option Word) → Where TargetIsThere (option_map (λ writer. access op writer args) o)
+      by None = nothing_there
+      by (Some writer) = found_there (an_access h hs)
+
+  target_at_there : (v : Val) → IsThere s v → Where TargetIsThere (target_at s.heap v)
+  target_at_there v h = where_if (is_symbol v) _ _ (found_there (a_variable h)) (where_then target_from (elements_there s sound v) target_there)
+
+  read_there : (op : Val) (k n : ℕ) → IsThere s op → FormsAreThere s (read_form op k n)
+  read_there op k n h = a_list _ (one_more (form_there h) (fresh_ones k n))
+
+  write_there : (writer : Word) (k n : ℕ) {x : Tree} → FormsAreThere s x → FormsAreThere s (write_form writer k n x)
+  write_there writer k n h = a_list _ (one_more (a_word writer) (each_append (fresh_ones k n) (just h)))
+
+  store_there : (writer : Word) (k n h : ℕ) {new : Tree} → FormsAreThere s new → FormsAreThere s (store_form writer k n h new)
+  store_there writer k n h i = a_let _ _ (just (a_binding fresh_there i)) (both (write_there writer k n fresh_there) fresh_there)
+
+  setf_target_there : (e : Val) (x : Target) → IsThere s e → TargetIsThere x → ExpansionIsThere s (setf_target e x)
+  setf_target_there e (variable v) k (a_variable h) = plainly 0 (of_two w.Setq (form_there h) (form_there k))
+  setf_target_there e (access op writer args) k (an_access h hs) =
+      plainly _ (a_let _ _ (each_append (bound_fresh 0 hs) (just (a_binding fresh_there (form_there k)))) (both (write_there writer 0 _ fresh_there) fresh_there))
+
+  setf_forms_there : (vs : List Val) → ValuesAreThere s vs → Where (TreesAreThere s) (setf_forms vs)
+  setf_forms_there [] h = found_there no_more
+  setf_forms_there (p ∷ []) h = nothing_there
+  setf_forms_there (p ∷ e ∷ others) (one_more h (one_more k ks)) = where_map _ (setf_forms_there others ks) (λ xs i. one_more (of_two w.Setf (form_there h) (form_there k)) i)
+
+  setf_there : (vs : List Val) → ValuesAreThere s vs → Where (ExpansionIsThere s) (setf_row s.heap vs)
+  setf_there [] h = found_there (plainly 0 (a_word w.Nil))
+  setf_there (p ∷ []) h = nothing_there
+  setf_there (p ∷ e ∷ []) (one_more h (one_more k ks)) = where_map _ (target_at_there p h) (λ x i. setf_target_there e x k i)
+  setf_there (p ∷ e ∷ x ∷ xs) h = where_map setf_each (setf_forms_there (p ∷ e ∷ x ∷ xs) h) (λ ys i. plainly 0 (a_list _ (one_more (a_word w.Progn) i)))
+
+  change_target_there : (sum : Word) (d : Val) (x : Target) → IsThere s d → TargetIsThere x → ExpansionIsThere s (change_target sum d x)
+  change_target_there sum d (variable v) k (a_variable h) = plainly 0 (of_two w.Setq (form_there h) (of_two sum (form_there h) (form_there k)))
+  change_target_there sum d (access op writer args) k (an_access h hs) =
+      plainly _ (a_let _ _ (each_append (bound_fresh 0 hs) (just (a_binding fresh_there (form_there k))))
+      (just (store_there writer 0 _ _ (of_two sum (read_there op 0 _ h) fresh_there))))
+
+  change_there : (sum : Word) (vs : List Val) → ValuesAreThere s vs → Where (ExpansionIsThere s) (change_row sum s.heap vs)
+  change_there sum [] h = nothing_there
+  change_there sum (p ∷ []) (one_more h hs) = where_map _ (target_at_there p h) (λ x i. change_target_there sum _ x (number_there sound 1 (omega arith)) i)
+  change_there sum (p ∷ d ∷ []) (one_more h (one_more k ks)) = where_map _ (target_at_there p h) (λ x i. change_target_there sum d x k i)
+  change_there sum (p ∷ d ∷ x ∷ xs) h = nothing_there
+
+  push_target_there : (v : Val) (x : Target) → IsThere s v → TargetIsThere x → ExpansionIsThere s (push_target v x)
+  push_target_there v (variable u) k (a_variable h) = plainly 0 (of_two w.Setq (form_there h) (of_two w.Cons (form_there k) (form_there h)))
+  push_target_there v (access op writer args) k (an_access h hs) =
+      plainly _ (a_let _ _ (one_more (a_binding fresh_there (form_there k)) (bound_fresh 1 hs))
+      (just (store_there writer 1 _ _ (of_two w.Cons fresh_there (read_there op 1 _ h)))))
+
+  push_there : (vs : List Val) → ValuesAreThere s vs → Where (ExpansionIsThere s) (push_row s.heap vs)
+  push_there [] h = nothing_there
+  push_there (x ∷ []) h = nothing_there
+  push_there (x ∷ p ∷ []) (one_more h (one_more k ks)) = where_map _ (target_at_there p k) (λ t i. push_target_there x t h i)
+  push_there (x ∷ p ∷ y ∷ ys) h = nothing_there
+
+  popped_there : (op : Val) (writer : Word) (n : ℕ) → IsThere s op → FormsAreThere s (popped_form op writer n)
+  popped_there op writer n h = a_let _ _ (just (a_binding fresh_there (read_there op 0 n h))) (both (write_there writer 0 n (of_one w.Cdr fresh_there)) (of_one w.Car fresh_there))
+
+  pop_target_there : (x : Target) → TargetIsThere x → ExpansionIsThere s (pop_target x)
+  pop_target_there (variable v) (a_variable h) = plainly 1 (a_kept v _ h (both (of_two w.Setq (form_there h) (of_one w.Cdr fresh_there)) (of_one w.Car fresh_there)))
+  pop_target_there (access op writer args) (an_access h hs) = plainly _ (a_let _ _ (bound_fresh 0 hs) (just (popped_there op writer _ h)))
+
+  pop_there : (vs : List Val) → ValuesAreThere s vs → Where (ExpansionIsThere s) (pop_row s.heap vs)
+  pop_there [] h = nothing_there
+  pop_there (p ∷ []) (one_more h hs) = where_map pop_target (target_at_there p h) pop_target_there
+  pop_there (p ∷ x ∷ xs) h = nothing_there
+
+  -- ---- MULTIPLE-VALUE-BIND, -LIST, -SETQ, NTH-VALUE, LAMBDA
+
+  receive_there : (variables : List Tree) (rest : Tree) (body : List Tree) (e : Val) → TreesAreThere s variables → FormsAreThere s rest → TreesAreThere s body → IsThere s e → FormsAreThere s (receive_form variables rest body e)
+  receive_there variables rest body e vs r b h =
+      of_two w.MultipleValueCall
+      (a_list _ (one_more (a_word w.Lambda) (one_more (a_list _ (one_more (a_word w.Optional) (each_append vs (both (a_word w.RestOf) r)))) b)))
+      (form_there h)
+
+  bind_values_there : (vs : List Val) → ValuesAreThere s vs → Where (ExpansionIsThere s) (bind_values_row s.heap vs)
+  bind_values_there [] h = nothing_there
+  bind_values_there (vs ∷ []) h = nothing_there
+  bind_values_there (vs ∷ e ∷ body) (one_more h (one_more k ks)) =
+      where_then _ (elements_there s sound vs) (λ xs i. where_if (all_symbols xs) _ _ (found_there (plainly 1 (receive_there _ _ _ e (the_forms i) fresh_there (the_forms ks) k))) nothing_there)
+
+  list_values_there : (vs : List Val) → ValuesAreThere s vs → Where (ExpansionIsThere s) (list_values_row vs)
+  list_values_there [] h = nothing_there
+  list_values_there (e ∷ []) (one_more h hs) = found_there (plainly 0 (of_two w.MultipleValueCall (of_one w.Function (a_word w.List)) (form_there h)))
+  list_values_there (e ∷ x ∷ xs) h = nothing_there
+
+  set_form_there : (e : Val) {vs : List Val} → IsThere s e → ValuesAreThere s vs → FormsAreThere s (set_form e vs)
+  set_form_there e h hs = receive_there _ _ _ e (fresh_ones 0 _) fresh_there (both (a_list _ (one_more (a_word w.Progn) (set_fresh 0 hs))) fresh_there) h
+
+  set_values_there : (e : Val) (vs : List Val) → IsThere s e → ValuesAreThere s vs → Where (ExpansionIsThere s) (set_values e vs)
+  set_values_there e [] h hs = found_there (plainly 0 (of_one w.Prog1 (form_there h)))
+  set_values_there e (v ∷ vs) h hs = where_if (all_symbols (v ∷ vs)) _ _ (found_there (plainly _ (set_form_there e h hs))) nothing_there
+
+  set_values_row_there : (vs : List Val) → ValuesAreThere s vs → Where (ExpansionIsThere s) (set_values_row s.heap vs)
+  set_values_row_there [] h = nothing_there
+  set_values_row_there (vs ∷ []) h = nothing_there
+  set_values_row_there (vs ∷ e ∷ []) (one_more h (one_more k ks)) = where_then _ (elements_there s sound vs) (λ xs i. set_values_there e xs k i)
+  set_values_row_there (vs ∷ e ∷ x ∷ xs) h = nothing_there
+
+  nth_value_there : (vs : List Val) → ValuesAreThere s vs → Where (ExpansionIsThere s) (nth_value_row vs)
+  nth_value_there [] h = nothing_there
+  nth_value_there (n ∷ []) h = nothing_there
+  nth_value_there (n ∷ e ∷ []) (one_more h (one_more k ks)) = found_there (plainly 0 (of_two w.Nth (form_there h) (of_one w.MultipleValueList (form_there k))))
+  nth_value_there (n ∷ e ∷ x ∷ xs) h = nothing_there
+
+  lambda_there : (vs : List Val) → ValuesAreThere s vs → Where (ExpansionIsThere s) (lambda_row vs)
+  lambda_there [] h = nothing_there
+  lambda_there (parameters ∷ body) h = found_there (plainly 0 (of_one w.Function (a_call w.Lambda h)))
+
+  -- ---- QUASIQUOTE
+
+  under_there : {x : Val} → IsThere s x → FormsAreThere s (under x)
+  under_there h = of_one w.Quasiquote (form_there h)
+
+  joined_there : (o : Option Val) (first rest : Val) → Where (IsThere s) o → IsThere s first → IsThere s rest → FormsAreThere s (joined o first rest)
+  joined_there None first rest o h k = of_two w.Cons (under_there h) (under_there k)
+  joined_there (Some e) first rest (found_there i) h k = of_two w.Append (form_there i) (under_there k)
+
+  quasi_parts_there : (x : Val) (o : Option (Val × Val)) → IsThere s x → Where (PairIsThere s) o → FormsAreThere s (quasi_parts s.heap x o)
+  quasi_parts_there x None h o = of_one w.Quote (form_there h)
+  quasi_parts_there x (Some p) h (found_there k) = joined_there _ p.0 p.1 (marked_there w.UnquoteSplicing p.0) k.0 k.1
+
+  quasi_there : (x : Val) (o : Option Val) → IsThere s x → Where (IsThere s) o → FormsAreThere s (quasi_form s.heap x o)
+  quasi_there x None h o = quasi_parts_there x _ h (cons_there s sound x)
+  quasi_there x (Some e) h (found_there k) = form_there k
+
+  quasiquote_there : (vs : List Val) → ValuesAreThere s vs → Where (ExpansionIsThere s) (quasiquote_row s.heap vs)
+  quasiquote_there [] h = nothing_there
+  quasiquote_there (x ∷ []) (one_more h hs) = found_there (plainly 0 (quasi_there x _ h (marked_there w.Unquote x)))
+  quasiquote_there (x ∷ y ∷ ys) h = nothing_there
+
+  -- ---- the table of macros
+
+  row_there : (macro : Macro) (rest : Val) (vs : List Val) → IsThere s rest → ValuesAreThere s vs → Where (ExpansionIsThere s) (row macro s.heap rest vs)
+  row_there m.And rest vs r h = and_there rest vs r h
+  row_there m.Or rest vs r h = or_there rest vs r h
+  row_there m.Cond rest vs r h = cond_there rest vs r h
+  row_there m.When rest vs r h = when_there vs h
+  row_there m.Unless rest vs r h = unless_there vs h
+  row_there m.Case rest vs r h = case_there ByKey vs h
+  row_there m.Ecase rest vs r h = exhaustive_there ByKey vs h
+  row_there m.Typecase rest vs r h = case_there ByType vs h
+  row_there m.Etypecase rest vs r h = exhaustive_there ByType vs h
+  row_there m.Loop rest vs r h = loop_there vs h
+  row_there m.Do rest vs r h = do_there Together vs h
+  row_there m.DoInOrder rest vs r h = do_there InOrder vs h
+  row_there m.Dotimes rest vs r h = dotimes_there vs h
+  row_there m.Dolist rest vs r h = dolist_there vs h
+  row_there m.Return rest vs r h = return_there vs h
+  row_there m.Prog rest vs r h = prog_there Together vs h
+  row_there m.ProgInOrder rest vs r h = prog_there InOrder vs h
+  row_there m.Prog1 rest vs r h = prog1_there vs h
+  row_there m.Prog2 rest vs r h = prog2_there vs h
+  row_there m.Psetq rest vs r h = psetq_there vs h
+  row_there m.Setf rest vs r h = setf_there vs h
+  row_there m.Incf rest vs r h = change_there w.Add vs h
+  row_there m.Decf rest vs r h = change_there w.Subtract vs h
+  row_there m.Push rest vs r h = push_there vs h
+  row_there m.Pop rest vs r h = pop_there vs h
+  row_there m.MultipleValueBind rest vs r h = bind_values_there vs h
+  row_there m.MultipleValueList rest vs r h = list_values_there vs h
+  row_there m.MultipleValueSetq rest vs r h = set_values_row_there vs h
+  row_there m.NthValue rest vs r h = nth_value_there vs h
+  row_there m.Lambda rest vs r h = lambda_there vs h
+  row_there m.Quasiquote rest vs r h = quasiquote_there vs h
+
+  rest_is_there : (v : Val) → IsThere s (rest_of s.heap v)
+  rest_is_there v = by (cons_at s.heap v) (cons_there s sound v)
+    where
+      by : (o : Option (Val × Val)) → Where (PairIsThere s) o → IsThere s (rest_by o)
+      by None h = nil_there sound
+      by (Some p) (found_there h) = h.1
+
+  arguments_there : (macro : Macro) (v : Val) → Where (ExpansionIsThere s) (arguments_row macro s.heap v)
+  unfolding arguments_row
+  arguments_there macro v = where_then _ (elements_there s sound v) (λ vs h. row_there macro _ vs (rest_is_there v) h)
+
+-- ---- the form that a macro form gives
+
+-- where it gives one, it is there, and the stores are sound and begin with what there was
+pub data WhereExpanded (s : Stores) : Expanded → Type 0 where
+  is_expanded : {v : Val} {table : Table} {heap : List Object} → Made s IsThere v (stores table heap) → WhereExpanded s (gives v table heap)
+  is_bad : {place : _} → WhereExpanded s (bad place)
+  is_full : WhereExpanded s full
+
+module _ (table : Table) (heap : List Object) (sound : AreSound (stores table heap)) where
+  with_symbols_there : (x : Expansion) (o : Option (List Val × Table)) → ExpansionIsThere (stores table heap) x → Where (FreshMade table heap) o → WhereExpanded (stores table heap) (with_symbols x heap o)
+  with_symbols_there x None h o = is_full
+  with_symbols_there x (Some found) h (found_there k) =
+      let first = tree_built found.1 found.0 nil x.first heap (record { sound = k.sound; symbols_there = k.there; before_there = nil_there k.sound }) (forms_stay k.grown h.first) in
+      let g = grown_on k.grown first.grown in
+      let whole = around_built found.1 found.0 x.around _ _ (record { sound = first.sound; symbols_there = values_stay first.grown k.there; before_there = first.there }) (each_map (λ y i. forms_stay g i) h.around) in
+      is_expanded (record { sound = whole.sound; grown = grown_on g whole.grown; there = whole.there })
+
+  expanded_by_there : (o : Option Expansion) (place : _) → Where (ExpansionIsThere (stores table heap)) o → WhereExpanded (stores table heap) (expanded_by o place table heap)
+  expanded_by_there None place h = is_bad
+  expanded_by_there (Some x) place (found_there h) = with_symbols_there x _ h (fresh_symbols_made x.count table heap sound)
+
+  expanded_as_there : (o : Option Macro) (v : Val) → WhereExpanded (stores table heap) (expanded_as o table heap v)
+  unfolding expanded
+  expanded_as_there None v = is_bad
+  expanded_as_there (Some macro) v = expanded_by_there _ _ (arguments_there (stores table heap) sound macro (arguments_of heap v))
+
+  pub expanded_there : (v : Val) → WhereExpanded (stores table heap) (expanded_form table heap v)
+  unfolding expanded_form
+  expanded_there v = expanded_as_there (macro_of_form heap v) v
