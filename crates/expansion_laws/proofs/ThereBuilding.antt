@@ -1,11 +1,10 @@
 -- What is built of what is there is there: forms of trees, and symbols that a table takes in. The stores stay sound and grow.
-use Rattle.std.specs.Prelude.{◌≡◌, refl, ℕ, zero, suc, ◌+◌, ◌<◌, ◌≤◌, Bool, true, false, nat_lt, List, [], ◌∷◌, ◌++◌, length, slice_index_or, All, Option, Some, None, if◌then◌else◌}
+use Rattle.std.specs.Prelude.{◌≡◌, refl, ℕ, zero, suc, ◌+◌, ◌<◌, ◌≤◌, Bool, true, false, nat_lt, List, [], ◌∷◌, ◌++◌, length, slice_index_or, Option, Some, None, if◌then◌else◌}
 use Rattle.std.specs.List.{position_or_len}
 use Rattle.std.specs.Option.{option_map, option_and_then}
 use Rattle.std.proofs.Common.{ap, sym, subst, ◌∙◌, arith, append_assoc}
 use Rattle.std.proofs.lemmas.List.{append-nil, length-append}
 use Rattle.std.proofs.lemmas.Bool.{ltb-true}
-use Rattle.std.proofs.lemmas.List.Elements.{All-nil, All-cons, All-append}
 use Rattle.lisp_base.specs.declared.values.SymKind.{SymKind}
 use Rattle.lisp_base.specs.declared.values.SymKind.TheVariants as kinds
 use Rattle.lisp_base.specs.declared.values.SymId.{SymId}
@@ -16,9 +15,9 @@ use Rattle.lisp_base.specs.Tables.{Symbol, make_symbol, Table, make_table, most_
 use Rattle.lisp_forms.specs.Trees.{Tree, form, fresh, inner, listed, Trees, none, also, trees}
 use Rattle.lisp_forms.specs.Building.{made_cons, made_list, with_first, built, built_each}
 use Rattle.std_macros.specs.Expanding.{fresh_symbols, built_around}
-use Rattle.expansion_laws.specs.There.{Stores, stores, SymbolIsThere, IsThere, a_symbol, an_object, ObjectIsThere, AreSound, Grown, Each, no_more, one_more}
-use Rattle.expansion_laws.proofs.ThereLists.{Where, nothing_there, found_there, where_then, where_map, where_if, where_passed, each_map, each_append, each_index, all_map}
-use Rattle.expansion_laws.proofs.ThereStores.{ValuesAreThere, grown_same, grown_on, value_stays, values_stay, symbol_stays, object_stays, nil_there}
+use Rattle.expansion_laws.specs.There.{Stores, stores, SymbolIsThere, IsThere, AreSound, Grown}
+use Rattle.expansion_laws.proofs.ThereLists.{Each, no_more, one_more, Where, nothing_there, found_there, where_then, where_map, where_if, where_passed, each_map, each_append, each_index}
+use Rattle.expansion_laws.proofs.ThereStores.{ValuesAreThere, grown_same, grown_on, value_stays, values_stay, symbol_stays, symbol_there, nil_there, get_last, cons_is_there}
 
 -- ---- what is made
 
@@ -36,18 +35,6 @@ made_from g m = record { sound = m.sound; grown = grown_on g m.grown; there = m.
 
 -- ---- conses
 
--- more objects that are there
-pub more_objects : (s : Stores) (xs : List Object) → AreSound s → ((t : Stores) → Grown s t → All (ObjectIsThere t) xs) → AreSound (stores s.table (s.heap ++ xs))
-more_objects s xs sound k =
-    record { begins = sound.begins; objects = All-append (ObjectIsThere t) s.heap xs (all_map s.heap (object_stays g) sound.objects) (k t g) }
-  where
-    t : Stores
-    t = stores s.table (s.heap ++ xs)
-
-    g : Grown s t
-    unfolding t
-    g = record { symbols = ([], sym (append-nil s.table.symbols)); objects = (xs, refl) }
-
 grown_heap : (s : Stores) (xs : List Object) → Grown s (stores s.table (s.heap ++ xs))
 grown_heap s xs = record { symbols = ([], sym (append-nil s.table.symbols)); objects = (xs, refl) }
 
@@ -57,11 +44,9 @@ module _ (table : Table) where
   MadeIn P heap made = Made (stores table heap) P made.0 (stores table made.1)
 
   pub cons_made : (car cdr : Val) (heap : List Object) → AreSound (stores table heap) → IsThere (stores table heap) car → IsThere (stores table heap) cdr → MadeIn IsThere heap (made_cons car cdr heap)
-  cons_made car cdr heap sound h k = record {
-    sound = more_objects (stores table heap) (Cons car cdr None ∷ []) sound (λ t g. All-cons (ObjectIsThere t) _ [] (value_stays g car h, value_stays g cdr k, tt) (All-nil _));
-    grown = grown_heap (stores table heap) (Cons car cdr None ∷ []);
-    there = an_object (simp length-append (omega arith));
-  }
+  cons_made car cdr heap sound h k =
+      let g = grown_heap (stores table heap) (Cons car cdr None ∷ []) in
+      record { sound = record { begins = sound.begins }; grown = g; there = cons_is_there _ _ car cdr (get_last heap (Cons car cdr None)) (value_stays g car h) (value_stays g cdr k) }
 
   pub list_made : (vs : List Val) (tail : Val) (heap : List Object) → AreSound (stores table heap) → ValuesAreThere (stores table heap) vs → IsThere (stores table heap) tail → MadeIn IsThere heap (made_list vs tail heap)
   list_made [] tail heap sound hs k = made_as_is IsThere tail sound k
@@ -153,10 +138,7 @@ symbol_added x count table heap sound =
 
     whole : AreSound new
     unfolding new
-    whole = record {
-      begins = (sound.begins.0 ++ x ∷ [], ap (λ (xs : List Symbol). xs ++ x ∷ []) sound.begins.1 ∙ append_assoc base_symbols sound.begins.0 (x ∷ []));
-      objects = all_map heap (object_stays g) sound.objects;
-    }
+    whole = record { begins = (sound.begins.0 ++ x ∷ [], ap (λ (xs : List Symbol). xs ++ x ∷ []) sound.begins.1 ∙ append_assoc base_symbols sound.begins.0 (x ∷ [])) }
 
 abbrev pub SymbolMade : Table → List Object → SymId × Table → Type 0
 SymbolMade table heap found = Made (stores table heap) SymbolIsThere found.0 (stores found.1 heap)
@@ -180,4 +162,4 @@ unfolding fresh_symbols
 fresh_symbols_made zero table heap sound = found_there (made_as_is ValuesAreThere [] sound no_more)
 fresh_symbols_made (suc n) table heap sound =
     where_then _ (fresh_made table heap sound) (λ made m. where_map _ (fresh_symbols_made n made.1 heap m.sound) (λ others o.
-    record { sound = o.sound; grown = grown_on m.grown o.grown; there = one_more (a_symbol (symbol_stays o.grown made.0 m.there)) o.there }))
+    record { sound = o.sound; grown = grown_on m.grown o.grown; there = one_more (symbol_there made.0 (symbol_stays o.grown made.0 m.there)) o.there }))

@@ -12,9 +12,9 @@ use Rattle.lisp_base.specs.Tables.{Table, Object}
 use Rattle.lisp_forms.specs.Trees.{Tree, form, list}
 use Rattle.lambda_lists.specs.Trees.{word, call, quoted, found, test_tree, value_tree, supplied_tree, refusal_tree}
 use Rattle.lambda_lists.specs.LambdaLists.{Default, KeyForms, Keyed, make_keyed, name_of, keyword_of, after_first, keyed, made, bound, bound_supplied, bound_key, bound_keys, forms_from, forms_after, keyword_in, made_forms, with_table, key_forms}
-use Rattle.expansion_laws.specs.There.{Stores, stores, SymbolIsThere, IsThere, a_symbol, AreSound, Grown, Each, no_more, one_more}
-use Rattle.expansion_laws.proofs.ThereLists.{Where, nothing_there, found_there, where_then, where_map, where_each, each_map, each_last, each_mapped}
-use Rattle.expansion_laws.proofs.ThereStores.{grown_same, grown_on, value_stays, symbol_stays, nil_there, truth_there, base_symbol_there}
+use Rattle.expansion_laws.specs.There.{Stores, stores, SymbolIsThere, IsThere, AreSound, Grown}
+use Rattle.expansion_laws.proofs.ThereLists.{Each, no_more, one_more, Where, nothing_there, found_there, where_then, where_map, where_each, each_map, each_last, each_mapped}
+use Rattle.expansion_laws.proofs.ThereStores.{grown_same, grown_on, value_stays, symbol_stays, nil_there, truth_there, symbol_there, base_there, base_symbol_there}
 use Rattle.expansion_laws.proofs.ThereReading.{DefaultIsThere, NamedValueIsThere}
 use Rattle.expansion_laws.proofs.ThereBuilding.{Made, FormsAreThere, form_there, list_there, forms_stay, all_trees_there, tree_built, interned_made, SymbolMade, Ready}
 
@@ -56,10 +56,10 @@ keyed_made (d ∷ ds) table heap sound (one_more h hs) =
 
 module _ {s : Stores} (sound : AreSound s) where
   a_word : (x : SymId) → SymbolIsThere s x → FormsAreThere s (word x)
-  a_word x h = form_there (a_symbol h)
+  a_word x h = form_there (symbol_there x h)
 
   base_word : (n : ℕ) → n < 310 → FormsAreThere s (form (Sym (symbol n)))
-  base_word n lt = form_there (a_symbol (base_symbol_there sound n lt))
+  base_word n lt = form_there (base_there sound n lt)
 
   a_list : (xs : List Tree) → Each (FormsAreThere s) xs → FormsAreThere s (list xs)
   a_list xs h = list_there (all_trees_there h) (nil_there sound)

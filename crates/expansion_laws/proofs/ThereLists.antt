@@ -4,7 +4,14 @@ use Rattle.std.specs.Option.{option_map, option_and_then}
 use Rattle.std.proofs.Common.{ap, sym, subst, ◌∙◌, arith}
 use Rattle.std.proofs.lemmas.List.{reverse-append}
 use Rattle.std.proofs.lemmas.List.Elements.{All-nil, All-cons, All-head, All-tail, All-append}
-use Rattle.expansion_laws.specs.There.{Each, no_more, one_more}
+
+-- P holds of each element
+pub data Each {X : Type 0} (P : X → Type 0) : List X → Type 0 where
+  no_more : Each P []
+  one_more : {x : X} {xs : List X} → P x → Each P xs → Each P (x ∷ xs)
+
+pub some_is_not_none : {A : Type 0} (a : A) → Some a ≡ None → ⊥
+some_is_not_none a e = cc
 
 -- ---- where something is found, P holds of it
 pub data Where {A : Type 0} (P : A → Type 0) : Option A → Type 0 where

@@ -31,8 +31,8 @@ use Rattle.std_macros.specs.Places.{Target, variable, access, writer_of, target_
 use Rattle.std_macros.specs.ManyValues.{receive_form, bind_values, bind_values_row, list_values_row, set_form, set_values, set_values_row, nth_value_row, lambda_row}
 use Rattle.std_macros.specs.Quasiquotes.{under, joined, quasi_parts, quasi_form, quasiquote_row}
 use Rattle.std_macros.specs.Expanding.{row, rest_by, rest_of, arguments_row, fresh_symbols, built_around, Expanded, gives, bad, full, with_heap, with_symbols, expanded_by, arguments_of, expanded, macro_of_form, expanded_as, expanded_form}
-use Rattle.expansion_laws.specs.There.{Stores, stores, SymbolIsThere, IsThere, AreSound, Grown, Each, no_more, one_more}
-use Rattle.expansion_laws.proofs.ThereLists.{Where, nothing_there, found_there, where_then, where_map, where_if, where_passed, each_map, each_append, each_head, each_tail, each_mapped, each_flat, each_reversed}
+use Rattle.expansion_laws.specs.There.{Stores, stores, SymbolIsThere, IsThere, AreSound, Grown}
+use Rattle.expansion_laws.proofs.ThereLists.{Each, no_more, one_more, Where, nothing_there, found_there, where_then, where_map, where_if, where_passed, each_map, each_append, each_head, each_tail, each_mapped, each_flat, each_reversed}
 use Rattle.expansion_laws.proofs.ThereStores.{PairIsThere, ValuesAreThere, grown_on, value_stays, values_stay, nil_there, number_there, cons_there, elements_there}
 use Rattle.expansion_laws.proofs.ThereBuilding.{Made, FormsAreThere, form_there, fresh_there, inner_there, list_there, forms_stay, all_trees_there, tree_built, around_built, fresh_symbols_made, FreshMade}
 use Rattle.expansion_laws.proofs.ThereWords.{word_value_there}
@@ -119,11 +119,11 @@ module _ (s : Stores) (sound : AreSound s) where
   pairs_there (a ∷ []) h = nothing_there
   pairs_there (a ∷ b ∷ others) (one_more h (one_more k ks)) = where_map _ (pairs_there others ks) (λ p i. (one_more h i.0, one_more k i.1))
 
-  only_there : (v : Val) → Where (IsThere s) (only_of s.heap v)
-  only_there v = where_then _ (cons_there s sound v) (λ p h. where_if (is_nil p.1) _ _ (found_there h.0) nothing_there)
+  only_there : (v : Val) → IsThere s v → Where (IsThere s) (only_of s.heap v)
+  only_there v i = where_then _ (cons_there s v i) (λ p h. where_if (is_nil p.1) _ _ (found_there h.0) nothing_there)
 
-  marked_there : (x : Word) (v : Val) → Where (IsThere s) (marked x s.heap v)
-  marked_there x v = where_then _ (cons_there s sound v) (λ p h. where_if (is_word x p.0) _ _ (only_there p.1) nothing_there)
+  marked_there : (x : Word) (v : Val) → IsThere s v → Where (IsThere s) (marked x s.heap v)
+  marked_there x v i = where_then _ (cons_there s v i) (λ p h. where_if (is_word x p.0) _ _ (only_there p.1 h.1) nothing_there)
 
   pub record PartsAreThere (b : Parts) : Type 0 where
     pub declarations : ValuesAreThere s b.declarations
@@ -170,7 +170,7 @@ module _ (s : Stores) (sound : AreSound s) where
 
   cond_there : (rest : Val) (vs : List Val) → IsThere s rest → ValuesAreThere s vs → Where (ExpansionIsThere s) (cond_row s.heap rest vs)
   cond_there rest [] r h = found_there (plainly 0 (a_word w.Nil))
-  cond_there rest (c ∷ others) r h = where_then _ (elements_there s sound c) (λ vs k. clause_there rest vs r k)
+  cond_there rest (c ∷ others) r (one_more h hs) = where_then _ (elements_there s c h) (λ vs k. clause_there rest vs r k)
 
   when_there : (vs : List Val) → ValuesAreThere s vs → Where (ExpansionIsThere s) (when_row vs)
   when_there [] h = nothing_there
@@ -216,7 +216,7 @@ module _ (s : Stores) (sound : AreSound s) where
     pub body : ValuesAreThere s c.body
 
   keys_there : (o : Option (Val × Val)) (v : Val) → IsThere s v → Where (ValuesAreThere s) (keys_by o s.heap v)
-  keys_there (Some p) v h = elements_there s sound v
+  keys_there (Some p) v h = elements_there s v h
   keys_there None v h = where_if (is_nil v) _ _ (found_there no_more) (found_there (one_more h no_more))
 
   tests_there : (by : Choice) (v : Val) → IsThere s v → Where (ValuesAreThere s) (tests_at by s.heap v)
@@ -228,7 +228,7 @@ module _ (s : Stores) (sound : AreSound s) where
   clause_from_there by (head ∷ body) (one_more h hs) = where_map _ (tests_there by head h) (λ tests k. record { tests = k; body = hs })
 
   clause_at_there : (by : Choice) (v : Val) → IsThere s v → Where ClauseIsThere (clause_at by s.heap v)
-  clause_at_there by v h = where_then _ (elements_there s sound v) (clause_from_there by)
+  clause_at_there by v h = where_then _ (elements_there s v h) (clause_from_there by)
 
   test_there : (by : Choice) (tests : List Val) → ValuesAreThere s tests → FormsAreThere s (test_type by tests)
   test_there ByKey tests h = a_call w.Member h
@@ -299,7 +299,7 @@ module _ (s : Stores) (sound : AreSound s) where
   step_there (v ∷ e ∷ n ∷ x ∷ xs) h = nothing_there
 
   step_at_there : (v : Val) → IsThere s v → Where StepIsThere (step_at s.heap v)
-  step_at_there v h = where_if (is_symbol v) _ _ (a_step v nil None h (nil_there sound) nothing_there) (where_then step_from (elements_there s sound v) step_there)
+  step_at_there v h = where_if (is_symbol v) _ _ (a_step v nil None h (nil_there sound) nothing_there) (where_then step_from (elements_there s v h) step_there)
 
   bindings_there : {steps : List Step} → Each StepIsThere steps → TreesAreThere s (map step_binding steps)
   bindings_there h = each_mapped step_binding (λ x k. a_binding (form_there k.variable) (form_there k.first)) h
@@ -331,8 +331,8 @@ module _ (s : Stores) (sound : AreSound s) where
   do_there order [] h = nothing_there
   do_there order (bindings ∷ []) h = nothing_there
   do_there order (bindings ∷ ending ∷ body) (one_more h (one_more k ks)) =
-      where_then _ (where_then (each (step_at s.heap)) (elements_there s sound bindings) (λ vs i. each_there (step_at s.heap) step_at_there i))
-      (λ steps i. where_then _ (elements_there s sound ending) (λ vs j. do_with_there order body steps vs ks i j))
+      where_then _ (where_then (each (step_at s.heap)) (elements_there s bindings h) (λ vs i. each_there (step_at s.heap) step_at_there i))
+      (λ steps i. where_then _ (elements_there s ending k) (λ vs j. do_with_there order body steps vs ks i j))
 
   pub record RepeatIsThere (x : Repeat) : Type 0 where
     pub variable : IsThere s x.variable
@@ -349,11 +349,11 @@ module _ (s : Stores) (sound : AreSound s) where
   repeat_there (v ∷ e ∷ r ∷ []) (one_more h (one_more k (one_more l ls))) = a_repeat v e r h k l
   repeat_there (v ∷ e ∷ r ∷ x ∷ xs) h = nothing_there
 
-  repeat_at_there : (v : Val) → Where RepeatIsThere (option_and_then repeat_from (elements s.heap v))
-  repeat_at_there v = where_then repeat_from (elements_there s sound v) repeat_there
+  repeat_at_there : (v : Val) → IsThere s v → Where RepeatIsThere (option_and_then repeat_from (elements s.heap v))
+  repeat_at_there v h = where_then repeat_from (elements_there s v h) repeat_there
 
   a_number : (n : ℕ) → n < 2 → FormsAreThere s (number n)
-  a_number n lt = form_there (number_there sound n lt)
+  a_number n lt = form_there (number_there n lt)
 
   count_there : (r : Repeat) (body : List Val) → RepeatIsThere r → ValuesAreThere s body → FormsAreThere s (count_round r body)
   count_there r body h b =
@@ -369,7 +369,7 @@ module _ (s : Stores) (sound : AreSound s) where
 
   dotimes_there : (vs : List Val) → ValuesAreThere s vs → Where (ExpansionIsThere s) (dotimes_row s.heap vs)
   dotimes_there [] h = nothing_there
-  dotimes_there (head ∷ body) (one_more h hs) = where_map _ (repeat_at_there head) (λ r k. plainly 2 (dotimes_form_there r _ k (body_there hs)))
+  dotimes_there (head ∷ body) (one_more h hs) = where_map _ (repeat_at_there head h) (λ r k. plainly 2 (dotimes_form_there r _ k (body_there hs)))
 
   of_list_type : {e : Tree} → FormsAreThere s e → FormsAreThere s (the_list e)
   of_list_type h = of_two w.The (a_word w.List) h
@@ -390,7 +390,7 @@ module _ (s : Stores) (sound : AreSound s) where
   dolist_there : (vs : List Val) → ValuesAreThere s vs → Where (ExpansionIsThere s) (dolist_row s.heap vs)
   dolist_there [] h = nothing_there
   dolist_there (head ∷ body) (one_more h hs) =
-      where_map _ (repeat_at_there head) (λ r k. plainly 2 (a_block (a_let _ _ (just (a_binding fresh_there (of_list_type (form_there k.over)))) (just (list_round_there r _ k (body_there hs))))))
+      where_map _ (repeat_at_there head h) (λ r k. plainly 2 (a_block (a_let _ _ (just (a_binding fresh_there (of_list_type (form_there k.over)))) (just (list_round_there r _ k (body_there hs))))))
 
   -- ---- SETF, INCF, DECF, PUSH, POP
 
@@ -407,7 +407,7 @@ module _ (s : Stores) (sound : AreSound s) where
       by (Some writer) = found_there (an_access h hs)
 
   target_at_there : (v : Val) → IsThere s v → Where TargetIsThere (target_at s.heap v)
-  target_at_there v h = where_if (is_symbol v) _ _ (found_there (a_variable h)) (where_then target_from (elements_there s sound v) target_there)
+  target_at_there v h = where_if (is_symbol v) _ _ (found_there (a_variable h)) (where_then target_from (elements_there s v h) target_there)
 
   read_there : (op : Val) (k n : ℕ) → IsThere s op → FormsAreThere s (read_form op k n)
   read_there op k n h = a_list _ (one_more (form_there h) (fresh_ones k n))
@@ -442,7 +442,7 @@ module _ (s : Stores) (sound : AreSound s) where
 
   change_there : (sum : Word) (vs : List Val) → ValuesAreThere s vs → Where (ExpansionIsThere s) (change_row sum s.heap vs)
   change_there sum [] h = nothing_there
-  change_there sum (p ∷ []) (one_more h hs) = where_map _ (target_at_there p h) (λ x i. change_target_there sum _ x (number_there sound 1 (omega arith)) i)
+  change_there sum (p ∷ []) (one_more h hs) = where_map _ (target_at_there p h) (λ x i. change_target_there sum _ x (number_there 1 (omega arith)) i)
   change_there sum (p ∷ d ∷ []) (one_more h (one_more k ks)) = where_map _ (target_at_there p h) (λ x i. change_target_there sum d x k i)
   change_there sum (p ∷ d ∷ x ∷ xs) h = nothing_there
 
@@ -482,7 +482,7 @@ module _ (s : Stores) (sound : AreSound s) where
   bind_values_there [] h = nothing_there
   bind_values_there (vs ∷ []) h = nothing_there
   bind_values_there (vs ∷ e ∷ body) (one_more h (one_more k ks)) =
-      where_then _ (elements_there s sound vs) (λ xs i. where_if (all_symbols xs) _ _ (found_there (plainly 1 (receive_there _ _ _ e (the_forms i) fresh_there (the_forms ks) k))) nothing_there)
+      where_then _ (elements_there s vs h) (λ xs i. where_if (all_symbols xs) _ _ (found_there (plainly 1 (receive_there _ _ _ e (the_forms i) fresh_there (the_forms ks) k))) nothing_there)
 
   list_values_there : (vs : List Val) → ValuesAreThere s vs → Where (ExpansionIsThere s) (list_values_row vs)
   list_values_there [] h = nothing_there
@@ -499,7 +499,7 @@ module _ (s : Stores) (sound : AreSound s) where
   set_values_row_there : (vs : List Val) → ValuesAreThere s vs → Where (ExpansionIsThere s) (set_values_row s.heap vs)
   set_values_row_there [] h = nothing_there
   set_values_row_there (vs ∷ []) h = nothing_there
-  set_values_row_there (vs ∷ e ∷ []) (one_more h (one_more k ks)) = where_then _ (elements_there s sound vs) (λ xs i. set_values_there e xs k i)
+  set_values_row_there (vs ∷ e ∷ []) (one_more h (one_more k ks)) = where_then _ (elements_there s vs h) (λ xs i. set_values_there e xs k i)
   set_values_row_there (vs ∷ e ∷ x ∷ xs) h = nothing_there
 
   nth_value_there : (vs : List Val) → ValuesAreThere s vs → Where (ExpansionIsThere s) (nth_value_row vs)
@@ -523,15 +523,15 @@ module _ (s : Stores) (sound : AreSound s) where
 
   quasi_parts_there : (x : Val) (o : Option (Val × Val)) → IsThere s x → Where (PairIsThere s) o → FormsAreThere s (quasi_parts s.heap x o)
   quasi_parts_there x None h o = of_one w.Quote (form_there h)
-  quasi_parts_there x (Some p) h (found_there k) = joined_there _ p.0 p.1 (marked_there w.UnquoteSplicing p.0) k.0 k.1
+  quasi_parts_there x (Some p) h (found_there k) = joined_there _ p.0 p.1 (marked_there w.UnquoteSplicing p.0 k.0) k.0 k.1
 
   quasi_there : (x : Val) (o : Option Val) → IsThere s x → Where (IsThere s) o → FormsAreThere s (quasi_form s.heap x o)
-  quasi_there x None h o = quasi_parts_there x _ h (cons_there s sound x)
+  quasi_there x None h o = quasi_parts_there x _ h (cons_there s x h)
   quasi_there x (Some e) h (found_there k) = form_there k
 
   quasiquote_there : (vs : List Val) → ValuesAreThere s vs → Where (ExpansionIsThere s) (quasiquote_row s.heap vs)
   quasiquote_there [] h = nothing_there
-  quasiquote_there (x ∷ []) (one_more h hs) = found_there (plainly 0 (quasi_there x _ h (marked_there w.Unquote x)))
+  quasiquote_there (x ∷ []) (one_more h hs) = found_there (plainly 0 (quasi_there x _ h (marked_there w.Unquote x h)))
   quasiquote_there (x ∷ y ∷ ys) h = nothing_there
 
   -- ---- the table of macros
@@ -569,16 +569,16 @@ module _ (s : Stores) (sound : AreSound s) where
   row_there m.Lambda rest vs r h = lambda_there vs h
   row_there m.Quasiquote rest vs r h = quasiquote_there vs h
 
-  rest_is_there : (v : Val) → IsThere s (rest_of s.heap v)
-  rest_is_there v = by (cons_at s.heap v) (cons_there s sound v)
+  pub rest_is_there : (v : Val) → IsThere s v → IsThere s (rest_of s.heap v)
+  rest_is_there v i = by (cons_at s.heap v) (cons_there s v i)
     where
       by : (o : Option (Val × Val)) → Where (PairIsThere s) o → IsThere s (rest_by o)
       by None h = nil_there sound
       by (Some p) (found_there h) = h.1
 
-  arguments_there : (macro : Macro) (v : Val) → Where (ExpansionIsThere s) (arguments_row macro s.heap v)
+  arguments_there : (macro : Macro) (v : Val) → IsThere s v → Where (ExpansionIsThere s) (arguments_row macro s.heap v)
   unfolding arguments_row
-  arguments_there macro v = where_then _ (elements_there s sound v) (λ vs h. row_there macro _ vs (rest_is_there v) h)
+  arguments_there macro v i = where_then _ (elements_there s v i) (λ vs h. row_there macro _ vs (rest_is_there v i) h)
 
 -- ---- the form that a macro form gives
 
@@ -601,11 +601,11 @@ module _ (table : Table) (heap : List Object) (sound : AreSound (stores table he
   expanded_by_there None place h = is_bad
   expanded_by_there (Some x) place (found_there h) = with_symbols_there x _ h (fresh_symbols_made x.count table heap sound)
 
-  expanded_as_there : (o : Option Macro) (v : Val) → WhereExpanded (stores table heap) (expanded_as o table heap v)
+  expanded_as_there : (o : Option Macro) (v : Val) → IsThere (stores table heap) v → WhereExpanded (stores table heap) (expanded_as o table heap v)
   unfolding expanded
-  expanded_as_there None v = is_bad
-  expanded_as_there (Some macro) v = expanded_by_there _ _ (arguments_there (stores table heap) sound macro (arguments_of heap v))
+  expanded_as_there None v i = is_bad
+  expanded_as_there (Some macro) v i = expanded_by_there _ _ (arguments_there (stores table heap) sound macro (arguments_of heap v) (rest_is_there (stores table heap) sound v i))
 
-  pub expanded_there : (v : Val) → WhereExpanded (stores table heap) (expanded_form table heap v)
+  pub expanded_there : (v : Val) → IsThere (stores table heap) v → WhereExpanded (stores table heap) (expanded_form table heap v)
   unfolding expanded_form
-  expanded_there v = expanded_as_there (macro_of_form heap v) v
+  expanded_there v i = expanded_as_there (macro_of_form heap v) v i

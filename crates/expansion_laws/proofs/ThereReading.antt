@@ -24,9 +24,9 @@ use Rattle.declarations.specs.Declarations.{Typed, Declared, make_declared, Read
 use Rattle.lambda_lists.specs.declared.parameters.Section.{Section}
 use Rattle.lambda_lists.specs.declared.parameters.Section.TheVariants.{Optional, Key}
 use Rattle.lambda_lists.specs.LambdaLists.{Default, LambdaList, can_be_bound, variable, default_with, listed_default, default_at, auxiliary_with, auxiliary_at, each, each_in, keys_in, rest_in, cut_at, cut, Sections, sections, make_list, list_of_sections, lambda_list}
-use Rattle.expansion_laws.specs.There.{Stores, stores, SymbolIsThere, IsThere, a_symbol, TypeIsThere, AreSound, Grown, Each, no_more, one_more, TypedIsThere}
-use Rattle.expansion_laws.proofs.ThereLists.{Where, nothing_there, found_there, where_then, where_map, where_if, each_map, each_append, each_last, each_take, each_drop}
-use Rattle.expansion_laws.proofs.ThereStores.{PairIsThere, ValuesAreThere, type_stays, symbol_stays, nil_there, cons_there, elements_there}
+use Rattle.expansion_laws.specs.There.{Stores, stores, SymbolIsThere, IsThere, TypeIsThere, AreSound, Grown, TypedIsThere}
+use Rattle.expansion_laws.proofs.ThereLists.{Each, no_more, one_more, Where, nothing_there, found_there, where_then, where_map, where_if, each_map, each_append, each_last, each_take, each_drop}
+use Rattle.expansion_laws.proofs.ThereStores.{PairIsThere, ValuesAreThere, typed_stays, symbol_stays, symbol_of_there, nil_there, cons_there, elements_there}
 use Rattle.expansion_laws.proofs.ThereTypes.{specifier_lawful}
 
 -- ---- declarations
@@ -37,7 +37,7 @@ pub record DeclaredAreThere (s : Stores) (d : Declared) : Type 0 where
   pub specials : Each (SymbolIsThere s) d.specials
 
 pub declared_stay : {s t : Stores} (g : Grown s t) (d : Declared) → DeclaredAreThere s d → DeclaredAreThere t d
-declared_stay g d h = record { types = each_map (λ x k. type_stays g x.spec k) h.types; specials = each_map (symbol_stays g) h.specials }
+declared_stay g d h = record { types = each_map (typed_stays g) h.types; specials = each_map (symbol_stays g) h.specials }
 
 -- where something is declared, it is there
 pub data WhereDeclared (s : Stores) : Reading → Type 0 where
@@ -58,11 +58,11 @@ each_read :
 each_read f k d [] h no_more = is_declared h
 each_read f k d (v ∷ vs) h (one_more there others) = read_then _ (k d v h there) (λ e i. each_read f k e vs i others)
 
-module _ (s : Stores) (sound : AreSound s) where
+module _ (s : Stores) where
   type_added : (t : Spec) → TypeIsThere s t → (d : Declared) (v : Val) → DeclaredAreThere s d → IsThere s v → WhereDeclared s (add_type t d v)
   type_added t k d (Int z) h i = no_form
   type_added t k d (Char c) h i = no_form
-  type_added t k d (Sym x) h i = is_declared (record { types = each_last _ h.types k; specials = h.specials })
+  type_added t k d (Sym x) h i = is_declared (record { types = each_last _ h.types (symbol_of_there x i, k); specials = h.specials })
   type_added t k d (Ref o) h i = no_form
 
   types_added : (d : Declared) (vs : List Val) (found : Option Spec) → DeclaredAreThere s d → ValuesAreThere s vs → Where (TypeIsThere s) found → WhereDeclared s (add_types d vs found)
@@ -72,7 +72,7 @@ module _ (s : Stores) (sound : AreSound s) where
   special_added : (d : Declared) (v : Val) → DeclaredAreThere s d → IsThere s v → WhereDeclared s (add_special d v)
   special_added d (Int z) h i = no_form
   special_added d (Char c) h i = no_form
-  special_added d (Sym x) h (a_symbol k) = is_declared (record { types = h.types; specials = each_last x h.specials k })
+  special_added d (Sym x) h i = is_declared (record { types = h.types; specials = each_last x h.specials (symbol_of_there x i) })
   special_added d (Ref o) h i = no_form
 
   setting_added : (d : Declared) (o : Option Setting) → DeclaredAreThere s d → WhereDeclared s (with_setting d o)
@@ -102,15 +102,15 @@ module _ (s : Stores) (sound : AreSound s) where
 
   specifier_read : (d : Declared) (v : Val) → DeclaredAreThere s d → IsThere s v → WhereDeclared s (read_specifier s.heap s.table d v)
   unfolding read_specifier
-  specifier_read d v h i = list_read _ _ (elements_there s sound v) (λ vs k. parts_read d vs h k)
+  specifier_read d v h i = list_read _ _ (elements_there s v i) (λ vs k. parts_read d vs h k)
 
-  whole_list_read : (d : Declared) (v : Val) → DeclaredAreThere s d → WhereDeclared s (read_list s.heap s.table d v)
+  whole_list_read : (d : Declared) (v : Val) → DeclaredAreThere s d → IsThere s v → WhereDeclared s (read_list s.heap s.table d v)
   unfolding read_list
-  whole_list_read d v h = list_read _ _ (elements_there s sound v) (λ vs k. each_read _ specifier_read d vs h k)
+  whole_list_read d v h i = list_read _ _ (elements_there s v i) (λ vs k. each_read _ specifier_read d vs h k)
 
-  rest_read : (d : Declared) (p : Option (Val × Val)) → DeclaredAreThere s d → WhereDeclared s (read_rest s.heap s.table d p)
-  rest_read d None h = no_form
-  rest_read d (Some p) h = whole_list_read d p.1 h
+  rest_read : (d : Declared) (p : Option (Val × Val)) → DeclaredAreThere s d → Where (PairIsThere s) p → WhereDeclared s (read_rest s.heap s.table d p)
+  rest_read d None h i = no_form
+  rest_read d (Some p) h (found_there i) = whole_list_read d p.1 h i.1
 
   if_not_refused : (d : Declared) → DeclaredAreThere s d → WhereDeclared s (tested d)
   if_not_refused d h = by (is_refused d.policy)
@@ -124,10 +124,10 @@ module _ (s : Stores) (sound : AreSound s) where
 
   pub declarations_read : (p : Policy) (vs : List Val) → ValuesAreThere s vs → WhereDeclared s (read_declarations s.heap s.table p vs)
   declarations_read p vs h =
-      read_then tested (each_read (read_declaration s.heap s.table) (λ d v i j. rest_read d (cons_at s.heap v) i) (nothing p) vs (none_there p) h) if_not_refused
+      read_then tested (each_read (read_declaration s.heap s.table) (λ d v i j. rest_read d (cons_at s.heap v) i (cons_there s v j)) (nothing p) vs (none_there p) h) if_not_refused
 
-  pub specifiers_read : (p : Policy) (v : Val) → WhereDeclared s (read_specifiers s.heap s.table p v)
-  specifiers_read p v = read_then tested (whole_list_read (nothing p) v (none_there p)) if_not_refused
+  pub specifiers_read : (p : Policy) (v : Val) → IsThere s v → WhereDeclared s (read_specifiers s.heap s.table p v)
+  specifiers_read p v h = read_then tested (whole_list_read (nothing p) v (none_there p) h) if_not_refused
 
 -- ---- bodies
 
@@ -196,7 +196,7 @@ module _ (s : Stores) (sound : AreSound s) where
   variable_there : (v : Val) → IsThere s v → Where (SymbolIsThere s) (variable s.table v)
   variable_there (Int z) h = nothing_there
   variable_there (Char c) h = nothing_there
-  variable_there (Sym x) (a_symbol h) = where_if (can_be_bound s.table x) _ _ (found_there h) nothing_there
+  variable_there (Sym x) h = where_if (can_be_bound s.table x) _ _ (found_there (symbol_of_there x h)) nothing_there
   variable_there (Ref o) h = nothing_there
 
   default_there : (vs : List Val) → ValuesAreThere s vs → Where (DefaultIsThere s) (default_with s.table vs)
@@ -217,7 +217,7 @@ module _ (s : Stores) (sound : AreSound s) where
 
   default_at_there : (section : Section) (v : Val) → IsThere s v → Where (DefaultIsThere s) (default_at section s.heap s.table v)
   default_at_there section v h =
-      where_if (is_symbol v) _ _ (default_there (v ∷ []) (one_more h no_more)) (where_then _ (elements_there s sound v) (listed_there section))
+      where_if (is_symbol v) _ _ (default_there (v ∷ []) (one_more h no_more)) (where_then _ (elements_there s v h) (listed_there section))
 
   auxiliary_there : (vs : List Val) → ValuesAreThere s vs → Where (NamedValueIsThere s) (auxiliary_with s.table vs)
   auxiliary_there [] h = nothing_there
@@ -227,7 +227,7 @@ module _ (s : Stores) (sound : AreSound s) where
 
   auxiliary_at_there : (v : Val) → IsThere s v → Where (NamedValueIsThere s) (auxiliary_at s.heap s.table v)
   auxiliary_at_there v h =
-      where_if (is_symbol v) _ _ (auxiliary_there (v ∷ []) (one_more h no_more)) (where_then _ (elements_there s sound v) auxiliary_there)
+      where_if (is_symbol v) _ _ (auxiliary_there (v ∷ []) (one_more h no_more)) (where_then _ (elements_there s v h) auxiliary_there)
 
   in_section : {A : Type 0} {Q : A → Type 0} (f : Val → Option A) (m : Option (List Val)) → ((v : Val) → IsThere s v → Where Q (f v)) → Where (ValuesAreThere s) m → Where (Each Q) (each_in f m)
   in_section f None k h = found_there no_more
@@ -270,6 +270,6 @@ module _ (s : Stores) (sound : AreSound s) where
       where_map _ (in_section (auxiliary_at s.heap s.table) x.auxiliary auxiliary_at_there h.auxiliary) (λ auxiliary e.
       record { required = a; optional = b; rest = c; keys = d; auxiliary = e })))))
 
-  pub lambda_list_there : (v : Val) → Where (LambdaListIsThere s) (lambda_list s.heap s.table v)
+  pub lambda_list_there : (v : Val) → IsThere s v → Where (LambdaListIsThere s) (lambda_list s.heap s.table v)
   unfolding lambda_list
-  lambda_list_there v = where_then _ (elements_there s sound v) (λ vs h. of_sections_there (sections vs) (sections_there vs h))
+  lambda_list_there v i = where_then _ (elements_there s v i) (λ vs h. of_sections_there (sections vs) (sections_there vs h))

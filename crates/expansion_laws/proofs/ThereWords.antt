@@ -21,7 +21,8 @@ use Rattle.std_macros.specs.declared.loops.Order.TheVariants.{Together, InOrder}
 use Rattle.std_macros.specs.declared.loops.Step.{Step}
 use Rattle.std_macros.specs.declared.loops.Repeat.{Repeat}
 use Rattle.std_macros.specs.Words.{word_number, word_symbol}
-use Rattle.expansion_laws.specs.There.{Stores, stores, SymbolIsThere, IsThere, a_symbol, AreSound, Grown, Each, no_more, one_more}
+use Rattle.expansion_laws.specs.There.{Stores, stores, SymbolIsThere, IsThere, AreSound, Grown}
+use Rattle.expansion_laws.proofs.ThereLists.{Each, no_more, one_more}
 use Rattle.expansion_laws.proofs.ThereStores.{base_there}
 
 -- a word is a base name
