@@ -25,7 +25,7 @@ use Rattle.expansion_laws.proofs.ThereSketches.{BinderIsThere, InitialIsThere, O
 
 -- what a test of the world finds, or a refusal
 pub found_safe : {A : Type 0} (P : Stores → A → Type 0) (sc : Scope) (f : World → Option A) {w : World} → IsInOrder w → Where (P (stores_of w)) (f w) → Safe w P ((look f >>= expect sc) w)
-found_safe {A} P sc f o h = then_safe (look_safe {P = λ (s : Stores) (m : Option A). Where (P s) m} f o h) (λ m u l k. expect_safe sc m l.order k)
+found_safe {A} P sc f o h = then_safe _ _ (look_safe {P = λ (s : Stores) (m : Option A). Where (P s) m} f o h) (λ m u l k. expect_safe sc m l.order k)
 
 -- a result of changed stores
 pub later_stores : {w : World} (s : Stores) → IsInOrder w → AreSound s → Grown (stores_of w) s → Later w (with_stores s.table s.heap w)
@@ -84,13 +84,13 @@ declared_safe sc bad_policy o h = refuse_safe BadPolicy sc
 body_safe : (sc : Scope) (b : Body) {w : World} → IsInOrder w → BodyIsThere (stores_of w) b → Safe w ContentsAreThere (read_body sc b w)
 unfolding read_body
 body_safe sc b {w} o h =
-    then_safe
-    (then_safe (look_safe {P = WhereDeclared} _ o (declarations_read (stores_of w) sc.policy b.declarations h.declarations)) (λ r u l k. declared_safe sc r l.order k))
+    then_safe _ _
+    (then_safe _ _ (look_safe {P = WhereDeclared} _ o (declarations_read (stores_of w) sc.policy b.declarations h.declarations)) (λ r u l k. declared_safe sc r l.order k))
     (λ d u l k. pure_safe _ l.order (record { declared = k; forms = values_stay l.grown h.forms }))
 
 pub contents_safe : (sc : Scope) (vs : List Val) {w : World} → IsInOrder w → ValuesAreThere (stores_of w) vs → Safe w ContentsAreThere (contents_of sc vs w)
 unfolding contents_of
-contents_safe sc vs {w} o h = then_safe (look_safe {P = BodyIsThere} _ o (body_there (stores_of w) vs h)) (λ b u l k. body_safe sc b l.order k)
+contents_safe sc vs {w} o h = then_safe _ _ (look_safe {P = BodyIsThere} _ o (body_there (stores_of w) vs h)) (λ b u l k. body_safe sc b l.order k)
 
 -- ---- functions
 
@@ -165,24 +165,24 @@ with_keys_safe : (sc : Scope) (l : LambdaList) (name : Option SymId) (c : Conten
 unfolding with_keys
 with_keys_safe sc l name c None {w} o k n h i = pure_safe _ o (plain_there (stores_of w) o.sound l name c k n h)
 with_keys_safe sc l name c (Some ds) o k n h (found_there i) =
-    then_safe (rest_safe sc l.rest o k.rest) (λ rest u a r.
-    then_safe (keys_safe sc rest ds a.order r (defaults_stay a.grown i)) (λ f x b j.
+    then_safe _ _ (rest_safe sc l.rest o k.rest) (λ rest u a r.
+    then_safe _ _ (keys_safe sc rest ds a.order r (defaults_stay a.grown i)) (λ f x b j.
     pure_safe _ b.order (keyed_there (stores_of x) b.order.sound l rest name c f
     (lambda_list_stays b.grown l (lambda_list_stays a.grown l k)) (symbol_stays b.grown rest r) (where_each (where_each n (symbol_stays a.grown)) (symbol_stays b.grown)) (contents_stay b.grown c (contents_stay a.grown c h)) j)))
 
 with_list_safe : (sc : Scope) (name : Option SymId) (vs : List Val) (l : LambdaList) {w : World} → IsInOrder w → Where (SymbolIsThere (stores_of w)) name → ValuesAreThere (stores_of w) vs → LambdaListIsThere (stores_of w) l → Safe w FunctionIsThere (function_with sc name vs l w)
 unfolding function_with
 with_list_safe sc name vs l o n h k =
-    then_safe (contents_safe sc vs o h) (λ c u a i. with_keys_safe sc l name c l.keys a.order (lambda_list_stays a.grown l k) (where_each n (symbol_stays a.grown)) i (where_each k.keys (λ ds j. defaults_stay a.grown j)))
+    then_safe _ _ (contents_safe sc vs o h) (λ c u a i. with_keys_safe sc l name c l.keys a.order (lambda_list_stays a.grown l k) (where_each n (symbol_stays a.grown)) i (where_each k.keys (λ ds j. defaults_stay a.grown j)))
 
 from_list_safe : (sc : Scope) (name : Option SymId) (vs : List Val) {w : World} → IsInOrder w → Where (SymbolIsThere (stores_of w)) name → ValuesAreThere (stores_of w) vs → Safe w FunctionIsThere (function_from sc name vs w)
 unfolding function_from
 from_list_safe sc name [] o n h = refuse_safe BadForm sc
 from_list_safe sc name (l ∷ vs) {w} o n (one_more h hs) =
-    then_safe (found_safe LambdaListIsThere sc _ o (lambda_list_there (stores_of w) o.sound l h))
+    then_safe _ _ (found_safe LambdaListIsThere sc _ o (lambda_list_there (stores_of w) o.sound l h))
     (λ x u a k. with_list_safe sc name vs x a.order (where_each n (symbol_stays a.grown)) (values_stay a.grown hs) k)
 
 pub function_safe : (sc : Scope) (name : Option SymId) (v : Val) {w : World} → IsInOrder w → IsThere (stores_of w) v → Where (SymbolIsThere (stores_of w)) name → Safe w FunctionIsThere (function_sketch sc name v w)
 unfolding function_sketch
 function_safe sc name v {w} o i n =
-    then_safe (found_safe ValuesAreThere sc _ o (elements_there (stores_of w) v i)) (λ vs u a k. from_list_safe sc name vs a.order (where_each n (symbol_stays a.grown)) k)
+    then_safe _ _ (found_safe ValuesAreThere sc _ o (elements_there (stores_of w) v i)) (λ vs u a k. from_list_safe sc name vs a.order (where_each n (symbol_stays a.grown)) k)

@@ -94,8 +94,8 @@ module _ (table : Table) (symbols : List Val) (before : Val) where
   ready_on heap new r g sound = record { sound = sound; symbols_there = values_stay g r.symbols_there; before_there = value_stays g before r.before_there }
 
   mutual
+    unfolding built built_each
     pub tree_built : (x : Tree) (heap : List Object) → Ready heap → FormsAreThere (stores table heap) x → MadeIn table IsThere heap (built symbols before x heap)
-    unfolding built
     tree_built (form v) heap r (form_there h) = made_as_is IsThere v r.sound h
     tree_built (fresh n) heap r h = made_as_is IsThere _ r.sound (each_index n nil (nil_there r.sound) r.symbols_there)
     tree_built inner heap r h = made_as_is IsThere before r.sound r.before_there
@@ -104,7 +104,6 @@ module _ (table : Table) (symbols : List Val) (before : Val) where
         made_from each.grown (list_made table _ tail _ each.sound each.there (value_stays each.grown tail h))
 
     pub trees_built : (xs : Trees) (heap : List Object) → Ready heap → AllFormsAreThere (stores table heap) xs → MadeIn table ValuesAreThere heap (built_each symbols before xs heap)
-    unfolding built_each
     trees_built none heap r h = made_as_is ValuesAreThere [] r.sound no_more
     trees_built (also x xs) heap r (also_there h hs) =
         let first = tree_built x heap r h in
@@ -123,22 +122,21 @@ around_built table symbols (x ∷ xs) heap v r (one_more h hs) =
 
 -- ---- symbols
 
+abbrev added_stores : Symbol → ℕ → Table → List Object → Stores
+added_stores x count table heap = stores (make_table (table.symbols ++ x ∷ []) count) heap
+
+added_grown : (x : Symbol) (count : ℕ) (table : Table) (heap : List Object) → Grown (stores table heap) (added_stores x count table heap)
+added_grown x count table heap = record { symbols = (x ∷ [], refl); objects = ([], sym (append-nil heap)) }
+
 -- one more symbol
 pub symbol_added : (x : Symbol) (count : ℕ) (table : Table) (heap : List Object) → AreSound (stores table heap) →
     Where (λ (found : SymId × Table). Made (stores table heap) SymbolIsThere found.0 (stores found.1 heap)) (added x count table)
 symbol_added x count table heap sound =
-    where_if (nat_lt (length table.symbols) most_symbols) _ _ (found_there (record { sound = whole; grown = g; there = simp length-append (omega arith) })) nothing_there
-  where
-    new : Stores
-    new = stores (make_table (table.symbols ++ x ∷ []) count) heap
-
-    g : Grown (stores table heap) new
-    unfolding new
-    g = record { symbols = (x ∷ [], refl); objects = ([], sym (append-nil heap)) }
-
-    whole : AreSound new
-    unfolding new
-    whole = record { begins = (sound.begins.0 ++ x ∷ [], ap (λ (xs : List Symbol). xs ++ x ∷ []) sound.begins.1 ∙ append_assoc base_symbols sound.begins.0 (x ∷ [])) }
+    where_if (nat_lt (length table.symbols) most_symbols) _ _ (found_there (record {
+      sound = record { begins = (sound.begins.0 ++ x ∷ [], ap (λ (xs : List Symbol). xs ++ x ∷ []) sound.begins.1 ∙ append_assoc base_symbols sound.begins.0 (x ∷ [])) };
+      grown = added_grown x count table heap;
+      there = simp length-append (omega arith);
+    })) nothing_there
 
 abbrev pub SymbolMade : Table → List Object → SymId × Table → Type 0
 SymbolMade table heap found = Made (stores table heap) SymbolIsThere found.0 (stores found.1 heap)

@@ -10,7 +10,7 @@ use Rattle.lisp_base.specs.declared.primitives.Primitive.TheVariants as q
 use Rattle.lisp_base.specs.declared.types.TypeName.{TypeName}
 use Rattle.lisp_base.specs.declared.types.TypeName.TheVariants as name
 use Rattle.lisp_base.specs.PrimNames.{prim_at}
-use Rattle.lisp_base.specs.Sort.{number_of}
+use Rattle.lisp_base.specs.Sort.{number_of, nil, truth}
 use Rattle.lisp_base.specs.Spec.{Named}
 use Rattle.lisp_base.specs.Lawful.{most_parts}
 use Rattle.core_form.specs.Checked.{operation_takes}
@@ -28,9 +28,9 @@ use Rattle.expansion_laws.proofs.ThereStores.{ValuesAreThere, nil_there, truth_t
 use Rattle.expansion_laws.proofs.ThereSteps.{IsInOrder, Safe, Nothing, only_safe}
 use Rattle.expansion_laws.proofs.ThereSketches.{SketchIsThere, a_form, a_leaf, a_unary, a_many, the_sketches, the_forms, a_constant, a_primitive}
 
-pub named_type_there : {s : Stores} (t : TypeName) → TypeIsThere s (Named t)
+pub named_type_there : (s : Stores) (t : TypeName) → TypeIsThere s (Named t)
 unfolding most_parts
-named_type_there t = record { parts = refl; size = omega arith }
+named_type_there s t = record { parts = refl; size = omega arith }
 
 module _ {s : Stores} (sound : AreSound s) where
   an_integer : (n : ℕ) → n < 2 → SketchIsThere s (integer n)
@@ -48,7 +48,7 @@ module _ {s : Stores} (sound : AreSound s) where
 
   a_fold : (o : Operation) (identity : Sketch) (vs : List Val) → SketchIsThere s identity → ValuesAreThere s vs → Where (SketchIsThere s) (fold_call o identity vs)
   a_fold o identity [] h k = found_there h
-  a_fold o identity (v ∷ []) h (one_more k ks) = found_there (a_unary (named_type_there name.Integer) (a_form k))
+  a_fold o identity (v ∷ []) h (one_more k ks) = found_there (a_unary (named_type_there s name.Integer) (a_form k))
   a_fold o identity (v ∷ x ∷ xs) h (one_more k ks) = found_there (a_folded o _ (x ∷ xs) (a_form k) ks)
 
   a_subtraction : (vs : List Val) → ValuesAreThere s vs → Where (SketchIsThere s) (subtraction vs)
@@ -67,10 +67,10 @@ module _ {s : Stores} (sound : AreSound s) where
   of_two o (v ∷ x ∷ []) (one_more h (one_more k ks)) = found_there (a_primitive o (two_parts (a_form h) (a_form k)))
   of_two o (v ∷ x ∷ y ∷ ys) h = nothing_there
 
-  nil_constant : SketchIsThere s (constant _)
+  nil_constant : SketchIsThere s (constant nil)
   nil_constant = a_constant (nil_there sound)
 
-  truth_constant : SketchIsThere s (constant _)
+  truth_constant : SketchIsThere s (constant truth)
   truth_constant = a_constant (truth_there sound)
 
   a_reading : (vs : List Val) → ValuesAreThere s vs → Where (SketchIsThere s) (reading vs)
@@ -86,7 +86,7 @@ module _ {s : Stores} (sound : AreSound s) where
 
   a_type_test : (t : TypeName) (vs : List Val) → ValuesAreThere s vs → Where (SketchIsThere s) (type_test t vs)
   a_type_test t [] h = nothing_there
-  a_type_test t (v ∷ []) (one_more h hs) = found_there (a_unary (named_type_there t) (a_form h))
+  a_type_test t (v ∷ []) (one_more h hs) = found_there (a_unary (named_type_there s t) (a_form h))
   a_type_test t (v ∷ x ∷ xs) h = nothing_there
 
   minus_one_there : SketchIsThere s minus_one

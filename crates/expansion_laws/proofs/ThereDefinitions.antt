@@ -79,8 +79,8 @@ module _ (sc : Scope) where
   unfolding defun_plan
   defun_safe arguments [] here i h = refuse_safe BadForm sc
   defun_safe arguments (n ∷ vs) {w} here i (one_more h hs) =
-      then_safe (expect_safe sc _ here.order (definable_there (stores_of w) n h)) (λ x u l k.
-      then_safe (then_safe (look_safe {P = IsThere} (λ w. tail_of w.heap arguments) l.order (tail_there (stores_of u) arguments l.order.sound (value_stays l.grown arguments i))) (λ v y m j. function_safe sc (Some x) v m.order j (found_there (symbol_stays m.grown x k))))
+      then_safe _ _ (expect_safe sc _ here.order (definable_there (stores_of w) n h)) (λ x u l k.
+      then_safe _ _ (then_safe _ _ (look_safe {P = IsThere} (λ w. tail_of w.heap arguments) l.order (tail_there (stores_of u) arguments l.order.sound (value_stays l.grown arguments i))) (λ v y m j. function_safe sc (Some x) v m.order j (found_there (symbol_stays m.grown x k))))
       (λ f y m j. makes_safe _ m.order (definition_there (stores_of y) x f (symbol_stays m.grown x k) j)))
 
   value_among_there : (s : Stores) (vs : List Val) → ValuesAreThere s vs → Where (IsThere s) (value_among s.heap vs)
@@ -111,17 +111,17 @@ module _ (sc : Scope) where
   set_safe : (x : SymId) (v : Val) {w : World} → Here w sc → SymbolIsThere (stores_of w) x → IsThere (stores_of w) v →
       Safe w SketchIsThere ((change (with_proclaimed x) >> look (global_set sc x v)) w)
   set_safe x v here h k =
-      next_safe (proclaimed_safe x here.order h) (λ a u l i. look_safe {P = SketchIsThere} (global_set sc x v) l.order (global_set_there x v u (here_on l here) (symbol_stays l.grown x h) (value_stays l.grown v k)))
+      next_safe _ _ (proclaimed_safe x here.order h) (λ a u l i. look_safe {P = SketchIsThere} (global_set sc x v) l.order (global_set_there x v u (here_on l here) (symbol_stays l.grown x h) (value_stays l.grown v k)))
 
   defvar_safe : (vs : List Val) {w : World} → Here w sc → ValuesAreThere (stores_of w) vs → Safe w PlanIsThere (defvar_plan sc vs w)
   unfolding defvar_plan
   defvar_safe [] here h = refuse_safe BadForm sc
   defvar_safe (n ∷ []) here (one_more h hs) =
-      then_safe (variable_safe n here.order h) (λ x u l k. next_safe (proclaimed_safe x l.order k) (λ a y m i. makes_safe _ m.order (a_constant (symbol_there x (symbol_stays m.grown x k)))))
+      then_safe _ _ (variable_safe n here.order h) (λ x u l k. next_safe _ _ (proclaimed_safe x l.order k) (λ a y m i. makes_safe _ m.order (a_constant (symbol_there x (symbol_stays m.grown x k)))))
   defvar_safe (n ∷ v ∷ vs) here (one_more h hs) =
-      then_safe (variable_safe n here.order h) (λ x u l k.
-      then_safe (value_safe (v ∷ vs) l.order (values_stay l.grown hs)) (λ e y m i.
-      then_safe (set_safe x e (here_on m (here_on l here)) (symbol_stays m.grown x k) i) (λ z t r j.
+      then_safe _ _ (variable_safe n here.order h) (λ x u l k.
+      then_safe _ _ (value_safe (v ∷ vs) l.order (values_stay l.grown hs)) (λ e y m i.
+      then_safe _ _ (set_safe x e (here_on m (here_on l here)) (symbol_stays m.grown x k) i) (λ z t r j.
       let known = symbol_stays r.grown x (symbol_stays m.grown x k) in
       makes_safe _ r.order (and_name_there _ x r.order.sound known (unless_bound_there _ x r.order.sound known j)))))
 
@@ -129,9 +129,9 @@ module _ (sc : Scope) where
   unfolding defparameter_plan
   defparameter_safe [] here h = refuse_safe BadForm sc
   defparameter_safe (n ∷ vs) here (one_more h hs) =
-      then_safe (variable_safe n here.order h) (λ x u l k.
-      then_safe (value_safe vs l.order (values_stay l.grown hs)) (λ e y m i.
-      then_safe (set_safe x e (here_on m (here_on l here)) (symbol_stays m.grown x k) i) (λ z t r j.
+      then_safe _ _ (variable_safe n here.order h) (λ x u l k.
+      then_safe _ _ (value_safe vs l.order (values_stay l.grown hs)) (λ e y m i.
+      then_safe _ _ (set_safe x e (here_on m (here_on l here)) (symbol_stays m.grown x k) i) (λ z t r j.
       makes_safe _ r.order (and_name_there _ x r.order.sound (symbol_stays r.grown x (symbol_stays m.grown x k)) j))))
 
   declaimed_safe : (d : Declared) {w : World} → IsInOrder w → DeclaredAreThere (stores_of w) d → Safe w Nothing (change (with_declaimed d) w)
@@ -140,14 +140,14 @@ module _ (sc : Scope) where
   declaim_safe : (arguments : Val) {w : World} → Here w sc → IsThere (stores_of w) arguments → Safe w PlanIsThere (declaim_plan sc arguments w)
   unfolding declaim_plan
   declaim_safe arguments {w} here h =
-      then_safe (then_safe (look_safe {P = WhereDeclared} (λ w. read_specifiers w.heap w.table w.policy arguments) here.order (specifiers_read (stores_of w) w.policy arguments h)) (λ r u l k. declared_safe sc r l.order k))
-      (λ d u l k. next_safe (declaimed_safe d l.order k) (λ a x m i. makes_safe _ m.order (a_constant (nil_there m.order.sound))))
+      then_safe _ _ (then_safe _ _ (look_safe {P = WhereDeclared} (λ w. read_specifiers w.heap w.table w.policy arguments) here.order (specifiers_read (stores_of w) w.policy arguments h)) (λ r u l k. declared_safe sc r l.order k))
+      (λ d u l k. next_safe _ _ (declaimed_safe d l.order k) (λ a x m i. makes_safe _ m.order (a_constant (nil_there m.order.sound))))
 
   in_package_safe : (vs : List Val) {w : World} → Here w sc → Safe w PlanIsThere (in_package_plan sc vs w)
   unfolding in_package_plan
   in_package_safe [] here = refuse_safe BadForm sc
   in_package_safe (n ∷ []) here =
-      next_safe (then_safe (look_safe {P = λ (s : Stores) (b : Bool). Unit {0}} (λ w. names_package (name_written w n)) here.order tt) (λ b u l k. only_safe sc b l.order))
+      next_safe _ _ (then_safe _ _ (look_safe {P = λ (s : Stores) (b : Bool). Unit {0}} (λ w. names_package (name_written w n)) here.order tt) (λ b u l k. only_safe sc b l.order))
       (λ a u l k. makes_safe _ l.order (a_constant (nil_there l.order.sound)))
   in_package_safe (n ∷ x ∷ xs) here = refuse_safe BadForm sc
 
@@ -188,7 +188,7 @@ module _ (sc : Scope) where
 
   operated_safe : (o : Operator) (arguments : Val) {w : World} → Here w sc → IsThere (stores_of w) arguments → Safe w PlanIsThere (operated o sc arguments w)
   unfolding operated
-  operated_safe o arguments here h = then_safe (elements_safe sc arguments here.order h) (λ vs u l k. operator_safe o arguments vs (here_on l here) (value_stays l.grown arguments h) k)
+  operated_safe o arguments here h = then_safe _ _ (elements_safe sc arguments here.order h) (λ vs u l k. operator_safe o arguments vs (here_on l here) (value_stays l.grown arguments h) k)
 
   -- ---- macros and calls
 
@@ -206,7 +206,7 @@ module _ (sc : Scope) where
       ((s : Stores) → AreSound s → Grown (stores_of w) s → (vs : List Val) → ValuesAreThere s vs → SketchIsThere s (make vs)) → Safe w PlanIsThere (called sc make arguments w)
   unfolding called
   called_safe make arguments o h f =
-      then_safe (elements_safe sc arguments o h) (λ vs u l k. next_safe (few_safe sc vs l.order) (λ a x m i. makes_safe _ m.order (f (stores_of x) m.order.sound (grown_on l.grown m.grown) vs (values_stay m.grown k))))
+      then_safe _ _ (elements_safe sc arguments o h) (λ vs u l k. next_safe _ _ (few_safe sc vs l.order) (λ a x m i. makes_safe _ m.order (f (stores_of x) m.order.sound (grown_on l.grown m.grown) vs (values_stay m.grown k))))
 
   global_safe : (v : Val) (x : SymId) (arguments : Val) (b : Bool) (o : Option Operator) {w : World} → Here w sc → IsThere (stores_of w) v → SymbolIsThere (stores_of w) x → IsThere (stores_of w) arguments →
       Safe w PlanIsThere (global_plan sc v x arguments b o w)
@@ -225,7 +225,7 @@ module _ (sc : Scope) where
   unfolding named_plan
   named_safe v x arguments (Some f) here h k i = called_safe (calls_local f) arguments here.order i (λ s sound g vs j. a_local_call sound f vs j)
   named_safe v x arguments None here h k i =
-      then_safe (look_safe {P = λ (s : Stores) (b : Bool). Unit {0}} (λ w. is_macro (macro_of_form w.heap v)) here.order tt)
+      then_safe _ _ (look_safe {P = λ (s : Stores) (b : Bool). Unit {0}} (λ w. is_macro (macro_of_form w.heap v)) here.order tt)
       (λ b u l j. global_safe v x arguments b (operator_of x) (here_on l here) (value_stays l.grown v h) (symbol_stays l.grown x k) (value_stays l.grown arguments i))
 
   -- ---- calls of lambda expressions
@@ -264,21 +264,21 @@ module _ (sc : Scope) where
   unfolding lambda_call
   lambda_call_safe operator vs None here h k i = makes_safe _ here.order (a_calling (a_form h) (the_sketches (the_forms k)))
   lambda_call_safe operator vs (Some p) here h k (found_there i) =
-      then_safe (contents_safe sc p.1 here.order i.1) (λ c u l j. makes_safe _ l.order (let_there _ c.declared p.0 _ j.declared (each_map (named_value_stays l.grown) i.0) (a_body c.forms l.order.sound j.forms)))
+      then_safe _ _ (contents_safe sc p.1 here.order i.1) (λ c u l j. makes_safe _ l.order (let_there _ c.declared p.0 _ j.declared (each_map (named_value_stays l.grown) i.0) (a_body c.forms l.order.sound j.forms)))
 
   lambda_on_safe : (operator : Val) (vs : List Val) {w : World} → Here w sc → IsThere (stores_of w) operator → ValuesAreThere (stores_of w) vs → Safe w PlanIsThere ((few sc vs >> look (lambda_bindings operator vs) >>= lambda_call sc operator vs) w)
   lambda_on_safe operator vs here h k =
-      then_safe
-      (next_safe (few_safe sc vs here.order) (λ a u l i. look_safe {P = λ (s : Stores) (m : Option (List (SymId × Val) × List Val)). Where (LambdaBindings s) m} (lambda_bindings operator vs) l.order (lambda_bindings_there operator vs u l.order (value_stays l.grown operator h) (values_stay l.grown k)) ))
+      then_safe _ _
+      (next_safe _ _ (few_safe sc vs here.order) (λ a u l i. look_safe {P = λ (s : Stores) (m : Option (List (SymId × Val) × List Val)). Where (LambdaBindings s) m} (lambda_bindings operator vs) l.order (lambda_bindings_there operator vs u l.order (value_stays l.grown operator h) (values_stay l.grown k)) ))
       (λ m u l i. lambda_call_safe operator vs m (here_on l here) (value_stays l.grown operator h) (values_stay l.grown k) i)
 
   lambda_form_safe : (operator arguments : Val) {w : World} → Here w sc → IsThere (stores_of w) operator → IsThere (stores_of w) arguments → Safe w PlanIsThere (lambda_plan_of sc operator arguments w)
   unfolding lambda_plan_of
   lambda_form_safe operator arguments here h k =
-      then_safe
-      (then_safe
-        (next_safe
-          (then_safe (look_safe {P = λ (s : Stores) (b : Bool). Unit {0}} (λ w. is_given (lambda_in w.heap operator)) here.order tt) (λ b u l i. only_safe sc b l.order))
+      then_safe _ _
+      (then_safe _ _
+        (next_safe _ _
+          (then_safe _ _ (look_safe {P = λ (s : Stores) (b : Bool). Unit {0}} (λ w. is_given (lambda_in w.heap operator)) here.order tt) (λ b u l i. only_safe sc b l.order))
           (λ a u l i. look_safe {P = λ (s : Stores) (m : Option (List Val)). Where (ValuesAreThere s) m} (λ w. elements w.heap arguments) l.order (elements_there (stores_of u) arguments (value_stays l.grown arguments k))))
         (λ m u l i. expect_safe sc m l.order i))
       (λ vs u l i. lambda_on_safe operator vs (here_on l here) (value_stays l.grown operator h) i)
@@ -303,6 +303,6 @@ module _ (sc : Scope) where
   plan_safe (Int z) here h = makes_safe _ here.order (a_constant h)
   plan_safe (Char c) here h = makes_safe _ here.order (a_constant h)
   plan_safe (Sym x) here h =
-      then_safe (look_safe {P = λ (s : Stores) (b : Bool). Unit {0}} (λ w. is_constant_symbol w.table x) here.order tt) (λ b u l k. symbol_safe x b (here_on l here) (symbol_stays l.grown x (symbol_of_there x h)))
+      then_safe _ _ (look_safe {P = λ (s : Stores) (b : Bool). Unit {0}} (λ w. is_constant_symbol w.table x) here.order tt) (λ b u l k. symbol_safe x b (here_on l here) (symbol_stays l.grown x (symbol_of_there x h)))
   plan_safe (Ref o) {w} here h =
-      then_safe (look_safe {P = λ (s : Stores) (p : Option (Val × Val)). Where (PairIsThere s) p} (λ w. cons_at w.heap (Ref o)) here.order (cons_there (stores_of w) (Ref o) h)) (λ p u l k. list_safe (Ref o) p (here_on l here) (value_stays l.grown (Ref o) h) k)
+      then_safe _ _ (look_safe {P = λ (s : Stores) (p : Option (Val × Val)). Where (PairIsThere s) p} (λ w. cons_at w.heap (Ref o)) here.order (cons_there (stores_of w) (Ref o) h)) (λ p u l k. list_safe (Ref o) p (here_on l here) (value_stays l.grown (Ref o) h) k)

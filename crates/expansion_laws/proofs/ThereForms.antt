@@ -116,7 +116,7 @@ module _ (sc : Scope) where
   lambda_safe : (m : Option Val) {w : World} → Here w sc → Where (IsThere (stores_of w)) m → Safe w PlanIsThere (lambda_plan sc m w)
   unfolding lambda_plan
   lambda_safe None here h = refuse_safe BadForm sc
-  lambda_safe (Some v) here (found_there h) = then_safe (function_safe sc None v here.order h nothing_there) (λ f u l k. makes_safe _ l.order (a_function k))
+  lambda_safe (Some v) here (found_there h) = then_safe _ _ (function_safe sc None v here.order h nothing_there) (λ f u l k. makes_safe _ l.order (a_function k))
 
   named_function_there : (s : Stores) (o : Option ℕ) (x : SymId) → SymbolIsThere s x → SketchIsThere s (named_function o x)
   named_function_there s None x h = a_leaf h
@@ -129,8 +129,11 @@ module _ (sc : Scope) where
   function_plan_safe (Char c ∷ []) here h = refuse_safe BadForm sc
   function_plan_safe (Sym x ∷ []) {w} here (one_more h hs) = makes_safe _ here.order (named_function_there (stores_of w) _ x (symbol_of_there x h))
   function_plan_safe (Ref o ∷ []) {w} here (one_more h hs) =
-      then_safe (look_safe {P = λ (s : Stores) (m : Option Val). Where (IsThere s) m} (λ w. lambda_in w.heap (Ref o)) here.order (lambda_in_there (stores_of w) (Ref o) h)) (λ m u l k. lambda_safe m (here_on l here) k)
-  function_plan_safe (v ∷ x ∷ xs) here h = refuse_safe BadForm sc
+      then_safe _ _ (look_safe {P = λ (s : Stores) (m : Option Val). Where (IsThere s) m} (λ w. lambda_in w.heap (Ref o)) here.order (lambda_in_there (stores_of w) (Ref o) h)) (λ m u l k. lambda_safe m (here_on l here) k)
+  function_plan_safe (Int z ∷ x ∷ xs) here h = refuse_safe BadForm sc
+  function_plan_safe (Char c ∷ x ∷ xs) here h = refuse_safe BadForm sc
+  function_plan_safe (Sym y ∷ x ∷ xs) here h = refuse_safe BadForm sc
+  function_plan_safe (Ref o ∷ x ∷ xs) here h = refuse_safe BadForm sc
 
   settings_there : (s : Stores) (vs : List Val) → ValuesAreThere s vs → Where (Each (SketchIsThere s)) (settings s.table vs)
   settings_there s [] h = found_there no_more
@@ -143,7 +146,7 @@ module _ (sc : Scope) where
 
   pub setq_safe : (vs : List Val) {w : World} → Here w sc → ValuesAreThere (stores_of w) vs → Safe w PlanIsThere (setq_plan sc vs w)
   unfolding setq_plan
-  setq_safe vs {w} here h = then_safe (found_safe SketchList sc (λ w. settings w.table vs) here.order (settings_there (stores_of w) vs h)) (λ xs u l k. makes_safe _ l.order (a_progn xs l.order.sound k))
+  setq_safe vs {w} here h = then_safe _ _ (found_safe SketchList sc (λ w. settings w.table vs) here.order (settings_there (stores_of w) vs h)) (λ xs u l k. makes_safe _ l.order (a_progn xs l.order.sound k))
 
   pub if_safe : (vs : List Val) {w : World} → Here w sc → ValuesAreThere (stores_of w) vs → Safe w PlanIsThere (if_plan sc vs w)
   unfolding if_plan
@@ -188,21 +191,21 @@ module _ (sc : Scope) where
   unfolding let_plan
   let_safe [] here h = refuse_safe BadForm sc
   let_safe (bs ∷ vs) here (one_more h hs) =
-      then_safe (bindings_safe bs here h) (λ ps u l k. then_safe (contents_safe sc vs l.order (values_stay l.grown hs)) (λ c x m i.
+      then_safe _ _ (bindings_safe bs here h) (λ ps u l k. then_safe _ _ (contents_safe sc vs l.order (values_stay l.grown hs)) (λ c x m i.
       makes_safe _ m.order (let_there _ c.declared ps _ i.declared (each_map (named_value_stays m.grown) k) (a_body c.forms m.order.sound i.forms))))
 
   pub let_in_order_safe : (vs : List Val) {w : World} → Here w sc → ValuesAreThere (stores_of w) vs → Safe w PlanIsThere (let_in_order_plan sc vs w)
   unfolding let_in_order_plan
   let_in_order_safe [] here h = refuse_safe BadForm sc
   let_in_order_safe (bs ∷ vs) here (one_more h hs) =
-      then_safe (bindings_safe bs here h) (λ ps u l k. then_safe (contents_safe sc vs l.order (values_stay l.grown hs)) (λ c x m i.
+      then_safe _ _ (bindings_safe bs here h) (λ ps u l k. then_safe _ _ (contents_safe sc vs l.order (values_stay l.grown hs)) (λ c x m i.
       makes_safe _ m.order (let_in_order_there _ c.declared ps _ i.declared (each_map (named_value_stays m.grown) k) (a_within (others_there _ (names ps) c.declared i.declared) (a_body c.forms m.order.sound i.forms)))))
 
   pub functions_safe : (reach : Reach) (vs : List Val) {w : World} → Here w sc → ValuesAreThere (stores_of w) vs → Safe w PlanIsThere (functions_plan reach sc vs w)
   unfolding functions_plan
   functions_safe reach [] here h = refuse_safe BadForm sc
   functions_safe reach (ds ∷ vs) here (one_more h hs) =
-      then_safe (elements_safe sc ds here.order h) (λ xs u l k. then_safe (contents_safe sc vs l.order (values_stay l.grown hs)) (λ c x m i.
+      then_safe _ _ (elements_safe sc ds here.order h) (λ xs u l k. then_safe _ _ (contents_safe sc vs l.order (values_stay l.grown hs)) (λ c x m i.
       makes_safe _ m.order (the_functions (values_stay m.grown k) (a_within i.declared (a_body c.forms m.order.sound i.forms)))))
 
   locally_forms_safe : (d : Declared) (vs : List Val) {w : World} → Here w sc → DeclaredAreThere (stores_of w) d → ValuesAreThere (stores_of w) vs → Safe w PlanIsThere (locally_forms d vs w)
@@ -213,18 +216,18 @@ module _ (sc : Scope) where
 
   pub locally_safe : (vs : List Val) {w : World} → Here w sc → ValuesAreThere (stores_of w) vs → Safe w PlanIsThere (locally_plan sc vs w)
   unfolding locally_plan
-  locally_safe vs here h = then_safe (contents_safe sc vs here.order h) (λ c u l k. locally_forms_safe c.declared c.forms (here_on l here) k.declared k.forms)
+  locally_safe vs here h = then_safe _ _ (contents_safe sc vs here.order h) (λ c u l k. locally_forms_safe c.declared c.forms (here_on l here) k.declared k.forms)
 
   type_safe : (v : Val) {w : World} → IsInOrder w → Safe w TypeIsThere (type_in sc v w)
   unfolding type_in
   type_safe v {w} o =
-      then_safe (look_safe {P = λ (s : Stores) (m : Option Spec). Where (TypeIsThere s) m} (λ w. specifier w.heap w.table v) o (specifier_lawful w.heap w.table v)) (λ m u l k. given_safe BadType sc m l.order k)
+      then_safe _ _ (look_safe {P = λ (s : Stores) (m : Option Spec). Where (TypeIsThere s) m} (λ w. specifier w.heap w.table v) o (specifier_lawful w.heap w.table v)) (λ m u l k. given_safe BadType sc m l.order k)
 
   pub the_safe : (vs : List Val) {w : World} → Here w sc → ValuesAreThere (stores_of w) vs → Safe w PlanIsThere (the_plan sc vs w)
   unfolding the_plan
   the_safe [] here h = refuse_safe BadForm sc
   the_safe (t ∷ []) here h = refuse_safe BadForm sc
-  the_safe (t ∷ v ∷ []) here (one_more h (one_more k ks)) = then_safe (type_safe t here.order) (λ x u l i. makes_safe _ l.order (a_unary i (a_form (value_stays l.grown v k))))
+  the_safe (t ∷ v ∷ []) here (one_more h (one_more k ks)) = then_safe _ _ (type_safe t here.order) (λ x u l i. makes_safe _ l.order (a_unary i (a_form (value_stays l.grown v k))))
   the_safe (t ∷ v ∷ x ∷ xs) here h = refuse_safe BadForm sc
 
   -- a symbol that is given
@@ -237,29 +240,29 @@ module _ (sc : Scope) where
   pub block_safe : (vs : List Val) {w : World} → Here w sc → ValuesAreThere (stores_of w) vs → Safe w PlanIsThere (block_plan sc vs w)
   unfolding block_plan
   block_safe [] here h = refuse_safe BadForm sc
-  block_safe (x ∷ vs) here (one_more h hs) = then_safe (symbol_safe x here.order h) (λ b u l k. makes_safe _ l.order (a_block k (a_body vs l.order.sound (values_stay l.grown hs))))
+  block_safe (x ∷ vs) here (one_more h hs) = then_safe _ _ (symbol_safe x here.order h) (λ b u l k. makes_safe _ l.order (a_block k (a_body vs l.order.sound (values_stay l.grown hs))))
 
   return_safe : (x : SymId) (v : Val) {w : World} → Here w sc → IsThere (stores_of w) v → Safe w PlanIsThere (return_plan sc x v w)
   unfolding return_plan
-  return_safe x v here h = then_safe (number_found (block_at sc x) here.order) (λ b u l k. makes_safe _ l.order (a_unary tt (a_form (value_stays l.grown v h))))
+  return_safe x v here h = then_safe _ _ (number_found (block_at sc x) here.order) (λ b u l k. makes_safe _ l.order (a_unary tt (a_form (value_stays l.grown v h))))
 
   pub return_from_safe : (vs : List Val) {w : World} → Here w sc → ValuesAreThere (stores_of w) vs → Safe w PlanIsThere (return_from_plan sc vs w)
   unfolding return_from_plan
   return_from_safe [] here h = refuse_safe BadForm sc
-  return_from_safe (x ∷ []) here (one_more h hs) = then_safe (symbol_safe x here.order h) (λ b u l k. return_safe b nil (here_on l here) (nil_there l.order.sound))
-  return_from_safe (x ∷ v ∷ []) here (one_more h (one_more k ks)) = then_safe (symbol_safe x here.order h) (λ b u l i. return_safe b v (here_on l here) (value_stays l.grown v k))
+  return_from_safe (x ∷ []) here (one_more h hs) = then_safe _ _ (symbol_safe x here.order h) (λ b u l k. return_safe b nil (here_on l here) (nil_there l.order.sound))
+  return_from_safe (x ∷ v ∷ []) here (one_more h (one_more k ks)) = then_safe _ _ (symbol_safe x here.order h) (λ b u l i. return_safe b v (here_on l here) (value_stays l.grown v k))
   return_from_safe (x ∷ v ∷ y ∷ ys) here h = refuse_safe BadForm sc
 
   pub tagbody_safe : (vs : List Val) {w : World} → Here w sc → ValuesAreThere (stores_of w) vs → Safe w PlanIsThere (tagbody_plan sc vs w)
   unfolding tagbody_plan
   tagbody_safe vs here h =
-      next_safe (then_safe (look_safe {P = λ (s : Stores) (b : Bool). Unit {0}} (λ w. are_items w.heap vs) here.order tt) (λ b u l k. only_safe sc b l.order))
+      next_safe _ _ (then_safe _ _ (look_safe {P = λ (s : Stores) (b : Bool). Unit {0}} (λ w. are_items w.heap vs) here.order tt) (λ b u l k. only_safe sc b l.order))
       (λ a u l k. makes_safe _ l.order (a_tagbody (values_stay l.grown h)))
 
   pub go_safe : (vs : List Val) {w : World} → Here w sc → ValuesAreThere (stores_of w) vs → Safe w PlanIsThere (go_plan sc vs w)
   unfolding go_plan
   go_safe [] here h = refuse_safe BadForm sc
-  go_safe (t ∷ []) here h = then_safe (number_found (tag_at sc t) here.order) (λ n u l k. makes_safe _ l.order (a_leaf tt))
+  go_safe (t ∷ []) here h = then_safe _ _ (number_found (tag_at sc t) here.order) (λ n u l k. makes_safe _ l.order (a_leaf tt))
   go_safe (t ∷ x ∷ xs) here h = refuse_safe BadForm sc
 
   pub catch_safe : (vs : List Val) {w : World} → Here w sc → ValuesAreThere (stores_of w) vs → Safe w PlanIsThere (catch_plan sc vs w)
@@ -291,26 +294,26 @@ module _ (sc : Scope) where
 
   pub values_safe : (vs : List Val) {w : World} → Here w sc → ValuesAreThere (stores_of w) vs → Safe w PlanIsThere (values_plan sc vs w)
   unfolding values_plan
-  values_safe vs here h = next_safe (only_safe sc _ here.order) (λ a u l k. makes_safe _ l.order (a_many tt (the_sketches (the_forms (values_stay l.grown h)))))
+  values_safe vs here h = next_safe _ _ (only_safe sc _ here.order) (λ a u l k. makes_safe _ l.order (a_many tt (the_sketches (the_forms (values_stay l.grown h)))))
 
   pub funcall_safe : (vs : List Val) {w : World} → Here w sc → ValuesAreThere (stores_of w) vs → Safe w PlanIsThere (funcall_plan sc vs w)
   unfolding funcall_plan
   funcall_safe [] here h = refuse_safe BadForm sc
   funcall_safe (f ∷ vs) here (one_more h hs) =
-      next_safe (few_safe sc vs here.order) (λ a u l k. makes_safe _ l.order (a_calling (a_form (value_stays l.grown f h)) (the_sketches (the_forms (values_stay l.grown hs)))))
+      next_safe _ _ (few_safe sc vs here.order) (λ a u l k. makes_safe _ l.order (a_calling (a_form (value_stays l.grown f h)) (the_sketches (the_forms (values_stay l.grown hs)))))
 
   pub apply_safe : (vs : List Val) {w : World} → Here w sc → ValuesAreThere (stores_of w) vs → Safe w PlanIsThere (apply_plan sc vs w)
   unfolding apply_plan
   apply_safe [] here h = refuse_safe BadForm sc
   apply_safe (f ∷ []) here h = refuse_safe BadForm sc
   apply_safe (f ∷ v ∷ vs) here (one_more h hs) =
-      next_safe (few_safe sc (v ∷ vs) here.order) (λ a u l k. makes_safe _ l.order (a_calling (a_form (value_stays l.grown f h)) (the_sketches (the_forms (values_stay l.grown hs)))))
+      next_safe _ _ (few_safe sc (v ∷ vs) here.order) (λ a u l k. makes_safe _ l.order (a_calling (a_form (value_stays l.grown f h)) (the_sketches (the_forms (values_stay l.grown hs)))))
 
   pub typep_safe : (vs : List Val) {w : World} → Here w sc → ValuesAreThere (stores_of w) vs → Safe w PlanIsThere (typep_plan sc vs w)
   unfolding typep_plan
   typep_safe [] here h = refuse_safe BadForm sc
   typep_safe (v ∷ []) here h = refuse_safe BadForm sc
   typep_safe (v ∷ t ∷ []) here (one_more h hs) =
-      then_safe (then_safe (found_safe (λ (s : Stores) (x : Val). Unit {0}) sc (λ w. quoted_in w.heap t) here.order (where_all (λ x. tt) _)) (λ x u l k. type_safe x l.order))
+      then_safe _ _ (then_safe _ _ (found_safe (λ (s : Stores) (x : Val). Unit {0}) sc (λ w. quoted_in w.heap t) here.order (where_all (λ x. tt) _)) (λ x u l k. type_safe x l.order))
       (λ x u l k. makes_safe _ l.order (a_unary k (a_form (value_stays l.grown v h))))
   typep_safe (v ∷ t ∷ x ∷ xs) here h = refuse_safe BadForm sc

@@ -58,7 +58,7 @@ module _ {s : Stores} (sound : AreSound s) where
   a_word : (x : SymId) → SymbolIsThere s x → FormsAreThere s (word x)
   a_word x h = form_there (symbol_there x h)
 
-  base_word : (n : ℕ) → n < 310 → FormsAreThere s (form (Sym (symbol n)))
+  base_word : (n : ℕ) → n < 314 → FormsAreThere s (form (Sym (symbol n)))
   base_word n lt = form_there (base_there sound n lt)
 
   a_list : (xs : List Tree) → Each (FormsAreThere s) xs → FormsAreThere s (list xs)

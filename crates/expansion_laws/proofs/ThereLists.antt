@@ -107,15 +107,15 @@ module _ {A : Type 0} where
   each_index zero d p (one_more h hs) = h
   each_index (suc n) d p (one_more h hs) = each_index n d p hs
 
-  pub each_take : {P : A → Type 0} {xs : List A} (n : ℕ) → Each P xs → Each P (take n xs)
-  each_take zero hs = no_more
-  each_take (suc n) no_more = no_more
-  each_take (suc n) (one_more h hs) = one_more h (each_take n hs)
+  pub each_take : {P : A → Type 0} (n : ℕ) (xs : List A) → Each P xs → Each P (take n xs)
+  each_take zero xs hs = no_more
+  each_take (suc n) [] hs = no_more
+  each_take (suc n) (x ∷ xs) (one_more h hs) = one_more h (each_take n xs hs)
 
-  pub each_drop : {P : A → Type 0} {xs : List A} (n : ℕ) → Each P xs → Each P (drop n xs)
-  each_drop zero hs = hs
-  each_drop (suc n) no_more = no_more
-  each_drop (suc n) (one_more h hs) = each_drop n hs
+  pub each_drop : {P : A → Type 0} (n : ℕ) (xs : List A) → Each P xs → Each P (drop n xs)
+  each_drop zero xs hs = hs
+  each_drop (suc n) [] hs = no_more
+  each_drop (suc n) (x ∷ xs) (one_more h hs) = each_drop n xs hs
 
 pub each_mapped : {A B : Type 0} {P : A → Type 0} {Q : B → Type 0} {xs : List A} (f : A → B) → ((a : A) → P a → Q (f a)) → Each P xs → Each Q (map f xs)
 each_mapped f k no_more = no_more
@@ -130,5 +130,5 @@ each_flat f k (one_more h hs) = each_append (k _ h) (each_flat f k hs)
 pub all_map : {A : Type 0} {P Q : A → Type 0} (xs : List A) → ((a : A) → P a → Q a) → All P xs → All Q xs
 all_map xs k h n d lt = k _ (h n d lt)
 
-pub all_contained : {A : Type 0} {P : A → Type 0} (xs : List A) (x : A) → All P xs → Contains xs x → P x
-all_contained {P = P} xs x h c = subst P c.2 (h c.0 x c.1)
+pub all_contained : {A : Type 0} (P : A → Type 0) (xs : List A) (x : A) → All P xs → Contains xs x → P x
+all_contained P xs x h c = subst P c.2 (h c.0 x c.1)

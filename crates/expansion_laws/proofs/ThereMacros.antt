@@ -5,37 +5,29 @@ use Rattle.std.specs.Option.{option_map, option_and_then, is_some}
 use Rattle.std.proofs.Common.{arith}
 use Rattle.lisp_base.specs.declared.values.Val.{Val}
 use Rattle.lisp_base.specs.declared.values.Val.TheVariants.{Int, Char, Sym, Ref}
-use Rattle.lisp_base.specs.Sort.{nil}
+use Rattle.lisp_base.specs.Sort.{nil, symbol}
 use Rattle.lisp_base.specs.Membership.{is_symbol}
 use Rattle.lisp_base.specs.Tables.{Table, Object}
 use Rattle.lisp_forms.specs.Conses.{cons_at, elements, is_nil, place_at}
 use Rattle.lisp_forms.specs.Trees.{Tree, form, fresh, inner, listed, trees, list, list_before}
 use Rattle.lisp_forms.specs.Building.{built}
-use Rattle.std_macros.specs.declared.words.Word.{Word}
-use Rattle.std_macros.specs.declared.words.Word.TheVariants as w
 use Rattle.std_macros.specs.declared.macros.Macro.{Macro}
 use Rattle.std_macros.specs.declared.macros.Macro.TheVariants as m
-use Rattle.std_macros.specs.declared.cases.Choice.{Choice}
-use Rattle.std_macros.specs.declared.cases.Choice.TheVariants.{ByKey, ByType}
-use Rattle.std_macros.specs.declared.loops.Order.{Order}
-use Rattle.std_macros.specs.declared.loops.Order.TheVariants.{Together, InOrder}
-use Rattle.std_macros.specs.declared.loops.Step.{Step}
-use Rattle.std_macros.specs.declared.loops.Repeat.{Repeat}
+use Rattle.std_macros.specs.Words.{word_number}
 use Rattle.std_macros.specs.Rules.{Expansion, expansion, plain, word, nil_form, forms, call, one, two, three, binding, let_form, kept, nil_block, fresh_from, fresh_bindings, fresh_sets}
 use Rattle.std_macros.specs.Syntax.{is_word, each, pairs, all_symbols, only_of, marked, is_string, is_declaration, undocumented, Parts, parts, with_declaration, parted, body_parts}
 use Rattle.std_macros.specs.Conditionals.{and_row, or_row, clause_row, cond_row, when_row, unless_row}
 use Rattle.std_macros.specs.Cases.{Clause, clause, keys_by, tests_at, clause_with, clause_at, is_default, test_type, clause_form, choice, before_default, open_choice, case_row, tests_of, gathered, all_tests, exhaustive_row}
 use Rattle.std_macros.specs.Loops.{go_to, loop_row, step, step_from, step_at, step_binding, next_value, step_sets, binder, setter, end_test, do_round, do_form, do_with, do_row, repeat, repeat_from, number, count_round, dotimes_bindings, dotimes_form, dotimes_row, the_list, list_test, list_body, list_round, dolist_form, dolist_row}
 use Rattle.std_macros.specs.Bindings.{return_row, prog_form, prog_row, kept_form, prog1_row, prog2_row, psetq_form, psetq_with, psetq_row}
-use Rattle.std_macros.specs.Places.{Target, variable, access, writer_of, target_from, target_at, read_form, write_form, store_form, setf_target, setf_forms, setf_each, setf_row, change_target, change_row, push_target, push_row, popped_form, pop_target, pop_row}
+use Rattle.std_macros.specs.Places.{Target, variable, access, writers, writer_of, target_from, target_at, read_form, write_form, store_form, setf_target, setf_forms, setf_each, setf_row, change_target, change_row, push_target, push_row, popped_form, pop_target, pop_row}
 use Rattle.std_macros.specs.ManyValues.{receive_form, bind_values, bind_values_row, list_values_row, set_form, set_values, set_values_row, nth_value_row, lambda_row}
 use Rattle.std_macros.specs.Quasiquotes.{under, joined, quasi_parts, quasi_form, quasiquote_row}
 use Rattle.std_macros.specs.Expanding.{row, rest_by, rest_of, arguments_row, fresh_symbols, built_around, Expanded, gives, bad, full, with_heap, with_symbols, expanded_by, arguments_of, expanded, macro_of_form, expanded_as, expanded_form}
 use Rattle.expansion_laws.specs.There.{Stores, stores, SymbolIsThere, IsThere, AreSound, Grown}
 use Rattle.expansion_laws.proofs.ThereLists.{Each, no_more, one_more, Where, nothing_there, found_there, where_then, where_map, where_if, where_passed, each_map, each_append, each_head, each_tail, each_mapped, each_flat, each_reversed}
-use Rattle.expansion_laws.proofs.ThereStores.{PairIsThere, ValuesAreThere, grown_on, value_stays, values_stay, nil_there, number_there, cons_there, elements_there}
+use Rattle.expansion_laws.proofs.ThereStores.{PairIsThere, ValuesAreThere, grown_on, value_stays, values_stay, IsBase, based, symbol_there, nil_there, number_there, cons_there, elements_there}
 use Rattle.expansion_laws.proofs.ThereBuilding.{Made, FormsAreThere, form_there, fresh_there, inner_there, list_there, forms_stay, all_trees_there, tree_built, around_built, fresh_symbols_made, FreshMade}
-use Rattle.expansion_laws.proofs.ThereWords.{word_value_there}
 
 abbrev pub TreesAreThere : Stores → List Tree → Type 0
 TreesAreThere s xs = Each (FormsAreThere s) xs
@@ -54,11 +46,41 @@ both h k = one_more h (one_more k no_more)
 just : {s : Stores} {x : Tree} → FormsAreThere s x → TreesAreThere s (x ∷ [])
 just h = one_more h no_more
 
+-- a clause by how its first element is read
+abbrev clause_by : (Val → Option (List Val)) → List Val → Option Clause
+clause_by read [] = None
+clause_by read (head ∷ body) = option_map (λ tests. clause head tests body) (read head)
+
+-- (MEMBER KEY*)
+abbrev member_of_tests : List Val → Tree
+member_of_tests tests = list (form (Sym (symbol 31)) ∷ forms tests)
+
+-- the type of a first test
+abbrev type_of_tests : ℕ → List Val → Tree
+type_of_tests n [] = form (Sym (symbol n))
+type_of_tests n (t ∷ ts) = form t
+
+-- the clauses, by what makes their forms, none of which stands for all that is left
+abbrev chosen_by : Val → (Clause → Tree) → List Clause × Tree → Option Expansion
+chosen_by a to p = if list_all (λ (c : Clause). not (is_default c.head)) p.0 then Some (expansion 1 p.1 (reverse (map to p.0) ++ kept a (inner ∷ []) ∷ [])) else None
+
+-- an end test and results that are given
+abbrev ended_by : (Val → List Val → Expansion) → List Val → Option Expansion
+ended_by f [] = None
+ended_by f (end ∷ results) = Some (f end results)
+
+-- a place that is changed by the function of this number
+abbrev changed : ℕ → Val → Target → Expansion
+changed n d (variable v) = plain 0 (list (form (Sym (symbol 105)) ∷ form v ∷ list (form (Sym (symbol n)) ∷ form v ∷ form d ∷ []) ∷ []))
+changed n d (access op writer args) =
+    plain (length args + 2) (let_form (fresh_bindings 0 args ++ binding (fresh (length args)) (form d) ∷ [])
+    (store_form writer 0 (length args) (length args + 1) (list (form (Sym (symbol n)) ∷ read_form op 0 (length args) ∷ fresh (length args) ∷ [])) ∷ []))
+
 -- ---- trees of words and forms
 
 module _ (s : Stores) (sound : AreSound s) where
-  a_word : (x : Word) → FormsAreThere s (word x)
-  a_word x = form_there (word_value_there sound x)
+  a_word : {n : ℕ} → IsBase n → FormsAreThere s (form (Sym (symbol n)))
+  a_word {n} b = form_there (symbol_there (symbol n) (based sound n b))
 
   a_list : (xs : List Tree) → TreesAreThere s xs → FormsAreThere s (list xs)
   a_list xs h = list_there (all_trees_there h) (nil_there sound)
@@ -69,29 +91,29 @@ module _ (s : Stores) (sound : AreSound s) where
   the_forms : {vs : List Val} → ValuesAreThere s vs → TreesAreThere s (forms vs)
   the_forms h = each_mapped form (λ v k. form_there k) h
 
-  a_call : (x : Word) {vs : List Val} → ValuesAreThere s vs → FormsAreThere s (call x vs)
-  a_call x h = a_list _ (one_more (a_word x) (the_forms h))
+  a_call : {n : ℕ} {vs : List Val} → IsBase n → ValuesAreThere s vs → FormsAreThere s (list (form (Sym (symbol n)) ∷ forms vs))
+  a_call b h = a_list _ (one_more (a_word b) (the_forms h))
 
-  of_one : (x : Word) {a : Tree} → FormsAreThere s a → FormsAreThere s (one x a)
-  of_one x h = a_list _ (both (a_word x) h)
+  of_one : {n : ℕ} {a : Tree} → IsBase n → FormsAreThere s a → FormsAreThere s (list (form (Sym (symbol n)) ∷ a ∷ []))
+  of_one b h = a_list _ (both (a_word b) h)
 
-  of_two : (x : Word) {a b : Tree} → FormsAreThere s a → FormsAreThere s b → FormsAreThere s (two x a b)
-  of_two x h k = a_list _ (one_more (a_word x) (both h k))
+  of_two : {n : ℕ} {a c : Tree} → IsBase n → FormsAreThere s a → FormsAreThere s c → FormsAreThere s (list (form (Sym (symbol n)) ∷ a ∷ c ∷ []))
+  of_two b h k = a_list _ (one_more (a_word b) (both h k))
 
-  of_three : (x : Word) {a b c : Tree} → FormsAreThere s a → FormsAreThere s b → FormsAreThere s c → FormsAreThere s (three x a b c)
-  of_three x h k l = a_list _ (one_more (a_word x) (one_more h (both k l)))
+  of_three : {n : ℕ} {a c d : Tree} → IsBase n → FormsAreThere s a → FormsAreThere s c → FormsAreThere s d → FormsAreThere s (list (form (Sym (symbol n)) ∷ a ∷ c ∷ d ∷ []))
+  of_three b h k l = a_list _ (one_more (a_word b) (one_more h (both k l)))
 
   a_binding : {v e : Tree} → FormsAreThere s v → FormsAreThere s e → FormsAreThere s (binding v e)
   a_binding h k = a_list _ (both h k)
 
   a_let : (bindings body : List Tree) → TreesAreThere s bindings → TreesAreThere s body → FormsAreThere s (let_form bindings body)
-  a_let bindings body h k = a_list _ (one_more (a_word w.Let) (one_more (a_list bindings h) k))
+  a_let bindings body h k = a_list _ (one_more (a_word refl) (one_more (a_list bindings h) k))
 
   a_kept : (a : Val) (body : List Tree) → IsThere s a → TreesAreThere s body → FormsAreThere s (kept a body)
   a_kept a body h k = a_let _ body (just (a_binding fresh_there (form_there h))) k
 
   a_block : {x : Tree} → FormsAreThere s x → FormsAreThere s (nil_block x)
-  a_block h = of_two w.Block (a_word w.Nil) h
+  a_block h = of_two refl (a_word refl) h
 
   fresh_ones : (n count : ℕ) → TreesAreThere s (fresh_from n count)
   fresh_ones n zero = no_more
@@ -103,7 +125,7 @@ module _ (s : Stores) (sound : AreSound s) where
 
   set_fresh : (n : ℕ) {vs : List Val} → ValuesAreThere s vs → TreesAreThere s (fresh_sets n vs)
   set_fresh n no_more = no_more
-  set_fresh n (one_more h hs) = one_more (of_two w.Setq (form_there h) fresh_there) (set_fresh (n + 1) hs)
+  set_fresh n (one_more h hs) = one_more (of_two refl (form_there h) fresh_there) (set_fresh (n + 1) hs)
 
   -- ---- parts of arguments
 
@@ -122,8 +144,9 @@ module _ (s : Stores) (sound : AreSound s) where
   only_there : (v : Val) → IsThere s v → Where (IsThere s) (only_of s.heap v)
   only_there v i = where_then _ (cons_there s v i) (λ p h. where_if (is_nil p.1) _ _ (found_there h.0) nothing_there)
 
-  marked_there : (x : Word) (v : Val) → IsThere s v → Where (IsThere s) (marked x s.heap v)
-  marked_there x v i = where_then _ (cons_there s v i) (λ p h. where_if (is_word x p.0) _ _ (only_there p.1 h.1) nothing_there)
+  -- the form after a word, in a list of these two
+  marked_there : (test : Val × Val → Bool) (v : Val) → IsThere s v → Where (IsThere s) (option_and_then (λ p. if test p then only_of s.heap p.1 else None) (cons_at s.heap v))
+  marked_there test v i = where_then _ (cons_there s v i) (λ p h. where_if (test p) _ _ (only_there p.1 h.1) nothing_there)
 
   pub record PartsAreThere (b : Parts) : Type 0 where
     pub declarations : ValuesAreThere s b.declarations
@@ -152,49 +175,58 @@ module _ (s : Stores) (sound : AreSound s) where
   -- ---- AND, OR, COND, WHEN, UNLESS
 
   and_there : (rest : Val) (vs : List Val) → IsThere s rest → ValuesAreThere s vs → Where (ExpansionIsThere s) (and_row rest vs)
-  and_there rest [] r h = found_there (plainly 0 (a_word w.T))
+  and_there rest [] r h = found_there (plainly 0 (a_word refl))
   and_there rest (a ∷ []) r (one_more h hs) = found_there (plainly 0 (form_there h))
-  and_there rest (a ∷ b ∷ others) r (one_more h hs) = found_there (plainly 0 (of_three w.If (form_there h) (a_list_before _ rest (just (a_word w.And)) r) (a_word w.Nil)))
+  and_there rest (a ∷ b ∷ others) r (one_more h hs) = found_there (plainly 0 (of_three refl (form_there h) (a_list_before _ rest (just (a_word refl)) r) (a_word refl)))
 
   or_there : (rest : Val) (vs : List Val) → IsThere s rest → ValuesAreThere s vs → Where (ExpansionIsThere s) (or_row rest vs)
-  or_there rest [] r h = found_there (plainly 0 (a_word w.Nil))
+  or_there rest [] r h = found_there (plainly 0 (a_word refl))
   or_there rest (a ∷ []) r (one_more h hs) = found_there (plainly 0 (form_there h))
   or_there rest (a ∷ b ∷ others) r (one_more h hs) =
-      found_there (plainly 1 (a_kept a _ h (just (of_three w.If fresh_there fresh_there (a_list_before _ rest (just (a_word w.Or)) r)))))
+      found_there (plainly 1 (a_kept a _ h (just (of_three refl fresh_there fresh_there (a_list_before _ rest (just (a_word refl)) r)))))
 
   clause_there : (rest : Val) (vs : List Val) → IsThere s rest → ValuesAreThere s vs → Where (ExpansionIsThere s) (clause_row rest vs)
   clause_there rest [] r h = nothing_there
-  clause_there rest (a ∷ []) r (one_more h hs) = found_there (plainly 0 (of_two w.Or (form_there h) (a_list_before _ rest (just (a_word w.Cond)) r)))
+  clause_there rest (a ∷ []) r (one_more h hs) = found_there (plainly 0 (of_two refl (form_there h) (a_list_before _ rest (just (a_word refl)) r)))
   clause_there rest (a ∷ e ∷ es) r (one_more h hs) =
-      found_there (plainly 0 (of_three w.If (form_there h) (a_call w.Progn hs) (a_list_before _ rest (just (a_word w.Cond)) r)))
+      found_there (plainly 0 (of_three refl (form_there h) (a_call refl hs) (a_list_before _ rest (just (a_word refl)) r)))
 
   cond_there : (rest : Val) (vs : List Val) → IsThere s rest → ValuesAreThere s vs → Where (ExpansionIsThere s) (cond_row s.heap rest vs)
-  cond_there rest [] r h = found_there (plainly 0 (a_word w.Nil))
+  cond_there rest [] r h = found_there (plainly 0 (a_word refl))
   cond_there rest (c ∷ others) r (one_more h hs) = where_then _ (elements_there s c h) (λ vs k. clause_there rest vs r k)
 
   when_there : (vs : List Val) → ValuesAreThere s vs → Where (ExpansionIsThere s) (when_row vs)
   when_there [] h = nothing_there
-  when_there (a ∷ es) (one_more h hs) = found_there (plainly 0 (of_three w.If (form_there h) (a_call w.Progn hs) (a_word w.Nil)))
+  when_there (a ∷ es) (one_more h hs) = found_there (plainly 0 (of_three refl (form_there h) (a_call refl hs) (a_word refl)))
 
   unless_there : (vs : List Val) → ValuesAreThere s vs → Where (ExpansionIsThere s) (unless_row vs)
   unless_there [] h = nothing_there
-  unless_there (a ∷ es) (one_more h hs) = found_there (plainly 0 (of_three w.If (form_there h) (a_word w.Nil) (a_call w.Progn hs)))
+  unless_there (a ∷ es) (one_more h hs) = found_there (plainly 0 (of_three refl (form_there h) (a_word refl) (a_call refl hs)))
 
   -- ---- RETURN, PROG, PROG*, PROG1, PROG2, PSETQ
 
   return_there : (vs : List Val) → ValuesAreThere s vs → Where (ExpansionIsThere s) (return_row vs)
-  return_there [] h = found_there (plainly 0 (of_two w.ReturnFrom (a_word w.Nil) (a_word w.Nil)))
-  return_there (e ∷ []) (one_more h hs) = found_there (plainly 0 (of_two w.ReturnFrom (a_word w.Nil) (form_there h)))
+  return_there [] h = found_there (plainly 0 (of_two refl (a_word refl) (a_word refl)))
+  return_there (e ∷ []) (one_more h hs) = found_there (plainly 0 (of_two refl (a_word refl) (form_there h)))
   return_there (e ∷ x ∷ xs) h = nothing_there
 
-  prog_there : (order : Order) (vs : List Val) → ValuesAreThere s vs → Where (ExpansionIsThere s) (prog_row order s.heap vs)
-  prog_there order [] h = nothing_there
-  prog_there order (bindings ∷ body) (one_more h hs) =
+  -- (BLOCK NIL (LET BINDS D* (TAGBODY BODY*))), also with LET*
+  a_prog : (n m : ℕ) (bindings : Val) {body : List Val} → IsBase n → IsBase m → IsThere s bindings → ValuesAreThere s body →
+      FormsAreThere s (nil_block (list (form (Sym (symbol n)) ∷ form bindings ∷ forms (body_parts s.heap body).declarations ++ list (form (Sym (symbol m)) ∷ forms (body_parts s.heap body).rest) ∷ [])))
+  a_prog _ _ bindings n m h hs =
       let b = body_there hs in
-      found_there (plainly 0 (a_block (a_list _ (one_more (a_word (binder order)) (one_more (form_there h) (each_append (the_forms b.declarations) (just (a_call w.Tagbody b.rest))))))))
+      a_block (a_list _ (one_more (a_word n) (one_more (form_there h) (each_append (the_forms b.declarations) (just (a_call m b.rest))))))
+
+  prog_there : (rest : Val) (vs : List Val) → ValuesAreThere s vs → Where (ExpansionIsThere s) (row m.Prog s.heap rest vs)
+  prog_there rest [] h = nothing_there
+  prog_there rest (bindings ∷ body) (one_more h hs) = found_there (plainly 0 (a_prog _ _ bindings refl refl h hs))
+
+  prog_in_order_there : (rest : Val) (vs : List Val) → ValuesAreThere s vs → Where (ExpansionIsThere s) (row m.ProgInOrder s.heap rest vs)
+  prog_in_order_there rest [] h = nothing_there
+  prog_in_order_there rest (bindings ∷ body) (one_more h hs) = found_there (plainly 0 (a_prog _ _ bindings refl refl h hs))
 
   kept_there : {a : Val} {es : List Val} → IsThere s a → ValuesAreThere s es → FormsAreThere s (kept_form a es)
-  kept_there h hs = a_kept _ _ h (both (a_call w.Progn hs) fresh_there)
+  kept_there h hs = a_kept _ _ h (both (a_call refl hs) fresh_there)
 
   prog1_there : (vs : List Val) → ValuesAreThere s vs → Where (ExpansionIsThere s) (prog1_row vs)
   prog1_there [] h = nothing_there
@@ -203,11 +235,11 @@ module _ (s : Stores) (sound : AreSound s) where
   prog2_there : (vs : List Val) → ValuesAreThere s vs → Where (ExpansionIsThere s) (prog2_row vs)
   prog2_there [] h = nothing_there
   prog2_there (a ∷ []) h = nothing_there
-  prog2_there (a ∷ b ∷ es) (one_more h (one_more k ks)) = found_there (plainly 1 (of_two w.Progn (form_there h) (kept_there k ks)))
+  prog2_there (a ∷ b ∷ es) (one_more h (one_more k ks)) = found_there (plainly 1 (of_two refl (form_there h) (kept_there k ks)))
 
   psetq_there : (vs : List Val) → ValuesAreThere s vs → Where (ExpansionIsThere s) (psetq_row vs)
   psetq_there vs h =
-      where_then psetq_with (pairs_there vs h) (λ p k. where_if (all_symbols p.0) _ _ (found_there (plainly (length p.0) (a_let _ _ (bound_fresh 0 k.1) (both (a_list _ (one_more (a_word w.Progn) (set_fresh 0 k.0))) (a_word w.Nil))))) nothing_there)
+      where_then psetq_with (pairs_there vs h) (λ p k. where_if (all_symbols p.0) _ _ (found_there (plainly (length p.0) (a_let _ _ (bound_fresh 0 k.1) (both (a_list _ (one_more (a_word refl) (set_fresh 0 k.0))) (a_word refl))))) nothing_there)
 
   -- ---- CASE, ECASE, TYPECASE, ETYPECASE
 
@@ -219,192 +251,204 @@ module _ (s : Stores) (sound : AreSound s) where
   keys_there (Some p) v h = elements_there s v h
   keys_there None v h = where_if (is_nil v) _ _ (found_there no_more) (found_there (one_more h no_more))
 
-  tests_there : (by : Choice) (v : Val) → IsThere s v → Where (ValuesAreThere s) (tests_at by s.heap v)
-  tests_there ByKey v h = keys_there (cons_at s.heap v) v h
-  tests_there ByType v h = found_there (one_more h no_more)
+  abbrev ClausesAreThere : List Clause → Type 0
+  ClausesAreThere cs = Each ClauseIsThere cs
 
-  clause_from_there : (by : Choice) (vs : List Val) → ValuesAreThere s vs → Where ClauseIsThere (clause_with by s.heap vs)
-  clause_from_there by [] h = nothing_there
-  clause_from_there by (head ∷ body) (one_more h hs) = where_map _ (tests_there by head h) (λ tests k. record { tests = k; body = hs })
-
-  clause_at_there : (by : Choice) (v : Val) → IsThere s v → Where ClauseIsThere (clause_at by s.heap v)
-  clause_at_there by v h = where_then _ (elements_there s v h) (clause_from_there by)
-
-  test_there : (by : Choice) (tests : List Val) → ValuesAreThere s tests → FormsAreThere s (test_type by tests)
-  test_there ByKey tests h = a_call w.Member h
-  test_there ByType [] h = a_word w.Nil
-  test_there ByType (type ∷ others) (one_more h hs) = form_there h
-
-  clause_form_there : (by : Choice) (c : Clause) → ClauseIsThere c → FormsAreThere s (clause_form by c)
-  clause_form_there by c h = of_three w.If (of_two w.Typep fresh_there (of_one w.Quote (test_there by c.tests h.tests))) (a_call w.Progn h.body) inner_there
-
-  choice_there : (by : Choice) (a : Val) (end : Tree) {clauses : List Clause} → IsThere s a → FormsAreThere s end → Each ClauseIsThere clauses → ExpansionIsThere s (choice by a end clauses)
-  choice_there by a end h k cs = record {
-    first = k;
-    around = each_append (each_reversed (each_mapped (clause_form by) (clause_form_there by) cs)) (just (a_kept a _ h (just inner_there)));
-  }
+  -- the clauses, by what makes their forms, around what is at the end
+  chosen_there : (a : Val) (end : Tree) (to : Clause → Tree) {clauses : List Clause} → ((c : Clause) → ClauseIsThere c → FormsAreThere s (to c)) → IsThere s a → FormsAreThere s end → ClausesAreThere clauses →
+      ExpansionIsThere s (expansion 1 end (reverse (map to clauses) ++ kept a (inner ∷ []) ∷ []))
+  chosen_there a end to f h k cs = record { first = k; around = each_append (each_reversed (each_mapped to f cs)) (just (a_kept a _ h (just inner_there))) }
 
   abbrev SplitIsThere : List Clause × Tree → Type 0
-  SplitIsThere p = Each ClauseIsThere p.0 × FormsAreThere s p.1
+  SplitIsThere p = ClausesAreThere p.0 × FormsAreThere s p.1
 
-  split_there : (cs : List Clause) → Each ClauseIsThere cs → SplitIsThere (before_default cs)
-  split_there [] h = (no_more, a_word w.Nil)
-  split_there (c ∷ []) (one_more h hs) = by (is_default c.head)
-    where
-      by : (b : Bool) → SplitIsThere (if b then ([], call w.Progn c.body) else (c ∷ [], nil_form))
-      by true = (no_more, a_call w.Progn h.body)
-      by false = (one_more h no_more, a_word w.Nil)
+  split_if : (b : Bool) (x y : List Clause × Tree) → SplitIsThere x → SplitIsThere y → SplitIsThere (if b then x else y)
+  split_if true x y h k = h
+  split_if false x y h k = k
+
+  split_there : (cs : List Clause) → ClausesAreThere cs → SplitIsThere (before_default cs)
+  split_there [] h = (no_more, a_word refl)
+  split_there (c ∷ []) (one_more h hs) = split_if (is_default c.head) _ _ (no_more, a_call refl h.body) (one_more h no_more, a_word refl)
   split_there (c ∷ d ∷ ds) (one_more h hs) = let k = split_there (d ∷ ds) hs in (one_more h k.0, k.1)
 
-  case_there : (by : Choice) (vs : List Val) → ValuesAreThere s vs → Where (ExpansionIsThere s) (case_row by s.heap vs)
-  case_there by [] h = nothing_there
-  case_there by (a ∷ cs) (one_more h hs) = where_then _ (each_there (clause_at by s.heap) (clause_at_there by) hs) (λ clauses k. open_there clauses (split_there clauses k))
-    where
-      open_there : (clauses : List Clause) → SplitIsThere (before_default clauses) → Where (ExpansionIsThere s) (open_choice by a (before_default clauses))
-      open_there clauses k = where_if (list_all (λ c. not (is_default c.head)) (before_default clauses).0) _ _ (found_there (choice_there by a _ h k.1 k.0)) nothing_there
+  case_there : (a : Val) (cs : List Val) (at : Val → Option Clause) (to : Clause → Tree) → ((v : Val) → IsThere s v → Where ClauseIsThere (at v)) → ((c : Clause) → ClauseIsThere c → FormsAreThere s (to c)) →
+      IsThere s a → ValuesAreThere s cs → Where (ExpansionIsThere s) (option_and_then (λ clauses. chosen_by a to (before_default clauses)) (each at cs))
+  case_there a cs at to f g h hs =
+      where_then _ (each_there at f hs) (λ clauses k. let split = split_there clauses k in where_if (list_all (λ (c : Clause). not (is_default c.head)) (before_default clauses).0) _ _ (found_there (chosen_there a _ to g h split.1 split.0)) nothing_there)
 
-  tests_of_there : {clauses : List Clause} → Each ClauseIsThere clauses → TreesAreThere s (tests_of clauses)
+  exhausted_there : (a : Val) (cs : List Val) (at : Val → Option Clause) (to : Clause → Tree) (end : List Clause → Tree) → ((v : Val) → IsThere s v → Where ClauseIsThere (at v)) → ((c : Clause) → ClauseIsThere c → FormsAreThere s (to c)) →
+      ((clauses : List Clause) → ClausesAreThere clauses → FormsAreThere s (end clauses)) → IsThere s a → ValuesAreThere s cs →
+      Where (ExpansionIsThere s) (option_map (λ clauses. expansion 1 (end clauses) (reverse (map to clauses) ++ kept a (inner ∷ []) ∷ [])) (each at cs))
+  exhausted_there a cs at to end f g e h hs = where_map _ (each_there at f hs) (λ clauses k. chosen_there a _ to g h (e clauses k) k)
+
+  tests_of_there : {clauses : List Clause} → ClausesAreThere clauses → TreesAreThere s (tests_of clauses)
   tests_of_there no_more = no_more
   tests_of_there (one_more h hs) = each_append (the_forms h.tests) (tests_of_there hs)
 
-  exhaustive_there : (by : Choice) (vs : List Val) → ValuesAreThere s vs → Where (ExpansionIsThere s) (exhaustive_row by s.heap vs)
-  exhaustive_there by [] h = nothing_there
-  exhaustive_there by (a ∷ cs) (one_more h hs) =
-      where_map _ (each_there (clause_at by s.heap) (clause_at_there by) hs) (λ clauses k. choice_there by a _ h (of_two w.The (a_list _ (one_more (a_word (gathered by)) (tests_of_there k))) fresh_there) k)
+  -- a clause by how its first element is read
+  clause_there_by : (read : Val → Option (List Val)) (v : Val) → ((x : Val) → IsThere s x → Where (ValuesAreThere s) (read x)) → IsThere s v →
+      Where ClauseIsThere (option_and_then (clause_by read) (elements s.heap v))
+  clause_there_by read v f h = where_then (clause_by read) (elements_there s v h) parts_of_clause
+    where
+      parts_of_clause : (vs : List Val) → ValuesAreThere s vs → Where ClauseIsThere (clause_by read vs)
+      parts_of_clause [] k = nothing_there
+      parts_of_clause (head ∷ body) (one_more k ks) = where_map _ (f head k) (λ tests i. record { tests = i; body = ks })
+
+  -- (IF (TYPEP G 'TYPE) (PROGN E*) REST), with the type of these tests
+  clause_form_there : {i t q p : ℕ} (type : List Val → Tree) (c : Clause) → IsBase i → IsBase t → IsBase q → IsBase p → ((tests : List Val) → ValuesAreThere s tests → FormsAreThere s (type tests)) → ClauseIsThere c →
+      FormsAreThere s (list (form (Sym (symbol i)) ∷ list (form (Sym (symbol t)) ∷ fresh 0 ∷ list (form (Sym (symbol q)) ∷ type c.tests ∷ []) ∷ []) ∷ list (form (Sym (symbol p)) ∷ forms c.body) ∷ inner ∷ []))
+  clause_form_there type c i t q p f h = of_three i (of_two t fresh_there (of_one q (f c.tests h.tests))) (a_call p h.body) inner_there
+
+  first_test : (n : ℕ) (tests : List Val) → IsBase n → ValuesAreThere s tests → FormsAreThere s (type_of_tests n tests)
+  first_test n [] b h = a_word b
+  first_test n (t ∷ ts) b (one_more h hs) = form_there h
+
+  by_key_there : (rest : Val) (vs : List Val) → ValuesAreThere s vs → Where (ExpansionIsThere s) (row m.Case s.heap rest vs)
+  by_key_there rest [] h = nothing_there
+  by_key_there rest (a ∷ cs) (one_more h hs) =
+      case_there a cs _ _ (λ v i. clause_there_by (λ x. keys_by (cons_at s.heap x) s.heap x) v (λ x k. keys_there _ x k) i) (λ c i. clause_form_there member_of_tests c refl refl refl refl (λ tests k. a_call refl k) i) h hs
+
+  by_type_there : (rest : Val) (vs : List Val) → ValuesAreThere s vs → Where (ExpansionIsThere s) (row m.Typecase s.heap rest vs)
+  by_type_there rest [] h = nothing_there
+  by_type_there rest (a ∷ cs) (one_more h hs) =
+      case_there a cs _ _ (λ v i. clause_there_by (λ x. Some (x ∷ [])) v (λ x k. found_there (one_more k no_more)) i) (λ c i. clause_form_there (type_of_tests 0) c refl refl refl refl (λ tests k. first_test 0 tests refl k) i) h hs
+
+  all_keys_there : (rest : Val) (vs : List Val) → ValuesAreThere s vs → Where (ExpansionIsThere s) (row m.Ecase s.heap rest vs)
+  all_keys_there rest [] h = nothing_there
+  all_keys_there rest (a ∷ cs) (one_more h hs) =
+      exhausted_there a cs _ _ _ (λ v i. clause_there_by (λ x. keys_by (cons_at s.heap x) s.heap x) v (λ x k. keys_there _ x k) i) (λ c i. clause_form_there member_of_tests c refl refl refl refl (λ tests k. a_call refl k) i)
+      (λ clauses k. of_two refl (a_list _ (one_more (a_word refl) (tests_of_there k))) fresh_there) h hs
+
+  all_types_there : (rest : Val) (vs : List Val) → ValuesAreThere s vs → Where (ExpansionIsThere s) (row m.Etypecase s.heap rest vs)
+  all_types_there rest [] h = nothing_there
+  all_types_there rest (a ∷ cs) (one_more h hs) =
+      exhausted_there a cs _ _ _ (λ v i. clause_there_by (λ x. Some (x ∷ [])) v (λ x k. found_there (one_more k no_more)) i) (λ c i. clause_form_there (type_of_tests 0) c refl refl refl refl (λ tests k. first_test 0 tests refl k) i)
+      (λ clauses k. of_two refl (a_list _ (one_more (a_word refl) (tests_of_there k))) fresh_there) h hs
 
   -- ---- LOOP, DO, DO*, DOTIMES, DOLIST
 
   a_jump : {g : Tree} → FormsAreThere s g → FormsAreThere s (go_to g)
-  a_jump h = of_one w.Go h
+  a_jump h = of_one refl h
 
   loop_there : (vs : List Val) → ValuesAreThere s vs → Where (ExpansionIsThere s) (loop_row s.heap vs)
   loop_there vs h =
       where_if (list_all (λ e. is_some (cons_at s.heap e)) vs) _ _
-      (found_there (plainly 1 (a_block (a_list _ (one_more (a_word w.Tagbody) (one_more fresh_there (each_append (the_forms h) (just (a_jump fresh_there)))))))))
+      (found_there (plainly 1 (a_block (a_list _ (one_more (a_word refl) (one_more fresh_there (each_append (the_forms h) (just (a_jump fresh_there)))))))))
       nothing_there
 
-  pub record StepIsThere (x : Step) : Type 0 where
-    pub variable : IsThere s x.variable
-    pub first : IsThere s x.first
-    pub next : Where (IsThere s) x.next
+  next_there : (v : Val) (next : Option Val) → IsThere s v → Where (IsThere s) next → TreesAreThere s (next_value v next)
+  next_there v None h k = no_more
+  next_there v (Some n) h (found_there k) = both (form_there h) (form_there k)
 
-  a_step : (v first : Val) (next : Option Val) → IsThere s v → IsThere s first → Where (IsThere s) next → Where StepIsThere (step v first next)
-  a_step v first next h k l = where_if (is_symbol v) _ _ (found_there (record { variable = h; first = k; next = l })) nothing_there
+  -- a variable with its first and its next value
+  a_step : (v first : Val) (next : Option Val) → IsThere s v → IsThere s first → Where (IsThere s) next → Where (λ x. FormsAreThere s (step_binding x) × TreesAreThere s (step_sets x)) (step v first next)
+  a_step v first next h k l = where_if (is_symbol v) _ _ (found_there (a_binding (form_there h) (form_there k), next_there v next h l)) nothing_there
 
-  step_there : (vs : List Val) → ValuesAreThere s vs → Where StepIsThere (step_from vs)
+  step_there : (vs : List Val) → ValuesAreThere s vs → Where (λ x. FormsAreThere s (step_binding x) × TreesAreThere s (step_sets x)) (step_from vs)
   step_there [] h = nothing_there
   step_there (v ∷ []) (one_more h hs) = a_step v nil None h (nil_there sound) nothing_there
   step_there (v ∷ e ∷ []) (one_more h (one_more k ks)) = a_step v e None h k nothing_there
   step_there (v ∷ e ∷ n ∷ []) (one_more h (one_more k (one_more l ls))) = a_step v e (Some n) h k (found_there l)
   step_there (v ∷ e ∷ n ∷ x ∷ xs) h = nothing_there
 
-  step_at_there : (v : Val) → IsThere s v → Where StepIsThere (step_at s.heap v)
+  step_at_there : (v : Val) → IsThere s v → Where (λ x. FormsAreThere s (step_binding x) × TreesAreThere s (step_sets x)) (step_at s.heap v)
   step_at_there v h = where_if (is_symbol v) _ _ (a_step v nil None h (nil_there sound) nothing_there) (where_then step_from (elements_there s v h) step_there)
 
-  bindings_there : {steps : List Step} → Each StepIsThere steps → TreesAreThere s (map step_binding steps)
-  bindings_there h = each_mapped step_binding (λ x k. a_binding (form_there k.variable) (form_there k.first)) h
-
-  next_there : (v : Val) (next : Option Val) → IsThere s v → Where (IsThere s) next → TreesAreThere s (next_value v next)
-  next_there v None h k = no_more
-  next_there v (Some n) h (found_there k) = both (form_there h) (form_there k)
-
-  sets_there : {steps : List Step} → Each StepIsThere steps → TreesAreThere s (flat_map step_sets steps)
-  sets_there h = each_flat step_sets (λ x k. next_there x.variable x.next k.variable k.next) h
-
   end_there : (end : Val) (results : List Val) → IsThere s end → ValuesAreThere s results → FormsAreThere s (end_test end results)
-  end_there end results h hs = of_three w.If (form_there h) (of_one w.Return (a_call w.Progn hs)) (a_word w.Nil)
+  end_there end results h hs = of_three refl (form_there h) (of_one refl (a_call refl hs)) (a_word refl)
 
-  round_there : (order : Order) (steps : List Step) (test : Tree) (body : List Val) → Each StepIsThere steps → FormsAreThere s test → ValuesAreThere s body → FormsAreThere s (do_round order steps test body)
-  round_there order steps test body h k l =
-      a_list _ (one_more (a_word w.Tagbody) (one_more fresh_there (one_more k (each_append (the_forms l)
-      (both (a_list _ (one_more (a_word (setter order)) (sets_there h))) (a_jump fresh_there))))))
+  -- the form of DO and DO*, by the words that bind and set
+  a_round : (g t : ℕ) (steps : _) (test : Tree) (body : List Val) → IsBase g → IsBase t → Each (λ x. FormsAreThere s (step_binding x) × TreesAreThere s (step_sets x)) steps → FormsAreThere s test → ValuesAreThere s body →
+      FormsAreThere s (list (form (Sym (symbol g)) ∷ fresh 0 ∷ test ∷ forms body ++ list (form (Sym (symbol t)) ∷ flat_map step_sets steps) ∷ go_to (fresh 0) ∷ []))
+  a_round _ _ steps test body g t h k l =
+      a_list _ (one_more (a_word g) (one_more fresh_there (one_more k (each_append (the_forms l)
+      (both (a_list _ (one_more (a_word t) (each_flat step_sets (λ x i. i.1) h))) (a_jump fresh_there))))))
 
-  do_form_there : (order : Order) (steps : List Step) (test : Tree) (body : Parts) → Each StepIsThere steps → FormsAreThere s test → PartsAreThere body → FormsAreThere s (do_form order steps test body)
-  do_form_there order steps test body h k b =
-      a_block (a_list _ (one_more (a_word (binder order)) (one_more (a_list _ (bindings_there h)) (each_append (the_forms b.declarations) (just (round_there order steps test body.rest h k b.rest))))))
+  a_do : (b g t : ℕ) (steps : _) (test : Tree) (body : List Val) → IsBase b → IsBase g → IsBase t → Each (λ x. FormsAreThere s (step_binding x) × TreesAreThere s (step_sets x)) steps → FormsAreThere s test → ValuesAreThere s body →
+      FormsAreThere s (nil_block (list (form (Sym (symbol b)) ∷ list (map step_binding steps) ∷ forms (body_parts s.heap body).declarations
+      ++ list (form (Sym (symbol g)) ∷ fresh 0 ∷ test ∷ forms (body_parts s.heap body).rest ++ list (form (Sym (symbol t)) ∷ flat_map step_sets steps) ∷ go_to (fresh 0) ∷ []) ∷ [])))
+  a_do _ _ _ steps test body b g t h k l =
+      let parts = body_there l in
+      a_block (a_list _ (one_more (a_word b) (one_more (a_list _ (each_mapped step_binding (λ x i. i.0) h)) (each_append (the_forms parts.declarations) (just (a_round _ _ steps test _ g t h k parts.rest))))))
 
-  do_with_there : (order : Order) (body : List Val) (steps : List Step) (vs : List Val) → ValuesAreThere s body → Each StepIsThere steps → ValuesAreThere s vs → Where (ExpansionIsThere s) (do_with order s.heap body steps vs)
-  do_with_there order body steps [] b h hs = nothing_there
-  do_with_there order body steps (end ∷ results) b h (one_more k ks) = found_there (plainly 1 (do_form_there order steps _ _ h (end_there end results k ks) (body_there b)))
+  -- steps and an end test that are found
+  do_with_there : (f : _ → Val → List Val → Expansion) (bindings ending : Val) → ((steps : _) (end : Val) (results : List Val) → Each (λ x. FormsAreThere s (step_binding x) × TreesAreThere s (step_sets x)) steps → IsThere s end → ValuesAreThere s results → ExpansionIsThere s (f steps end results)) →
+      IsThere s bindings → IsThere s ending →
+      Where (ExpansionIsThere s) (option_and_then (λ steps. option_and_then (ended_by (f steps)) (elements s.heap ending)) (option_and_then (each (step_at s.heap)) (elements s.heap bindings)))
+  do_with_there f bindings ending k h i =
+      where_then _ (where_then (each (step_at s.heap)) (elements_there s bindings h) (λ vs j. each_there (step_at s.heap) step_at_there j))
+      (λ steps j. where_then (ended_by (f steps)) (elements_there s ending i) (λ vs l. ended_there (f steps) (λ end results a b. k steps end results j a b) vs l))
+    where
+      ended_there : (f : Val → List Val → Expansion) → ((end : Val) (results : List Val) → IsThere s end → ValuesAreThere s results → ExpansionIsThere s (f end results)) → (vs : List Val) → ValuesAreThere s vs → Where (ExpansionIsThere s) (ended_by f vs)
+      ended_there f k [] h = nothing_there
+      ended_there f k (end ∷ results) (one_more h hs) = found_there (k end results h hs)
 
-  do_there : (order : Order) (vs : List Val) → ValuesAreThere s vs → Where (ExpansionIsThere s) (do_row order s.heap vs)
-  do_there order [] h = nothing_there
-  do_there order (bindings ∷ []) h = nothing_there
-  do_there order (bindings ∷ ending ∷ body) (one_more h (one_more k ks)) =
-      where_then _ (where_then (each (step_at s.heap)) (elements_there s bindings h) (λ vs i. each_there (step_at s.heap) step_at_there i))
-      (λ steps i. where_then _ (elements_there s ending k) (λ vs j. do_with_there order body steps vs ks i j))
+  do_there : (rest : Val) (vs : List Val) → ValuesAreThere s vs → Where (ExpansionIsThere s) (row m.Do s.heap rest vs)
+  do_there rest [] h = nothing_there
+  do_there rest (bindings ∷ []) h = nothing_there
+  do_there rest (bindings ∷ ending ∷ body) (one_more h (one_more k ks)) =
+      do_with_there _ bindings ending (λ steps end results i a b. plainly 1 (a_do _ _ _ steps _ body refl refl refl i (end_there end results a b) ks)) h k
 
-  pub record RepeatIsThere (x : Repeat) : Type 0 where
-    pub variable : IsThere s x.variable
-    pub over : IsThere s x.over
-    pub result : IsThere s x.result
+  do_in_order_there : (rest : Val) (vs : List Val) → ValuesAreThere s vs → Where (ExpansionIsThere s) (row m.DoInOrder s.heap rest vs)
+  do_in_order_there rest [] h = nothing_there
+  do_in_order_there rest (bindings ∷ []) h = nothing_there
+  do_in_order_there rest (bindings ∷ ending ∷ body) (one_more h (one_more k ks)) =
+      do_with_there _ bindings ending (λ steps end results i a b. plainly 1 (a_do _ _ _ steps _ body refl refl refl i (end_there end results a b) ks)) h k
 
-  a_repeat : (v e r : Val) → IsThere s v → IsThere s e → IsThere s r → Where RepeatIsThere (repeat v e r)
-  a_repeat v e r h k l = where_if (is_symbol v) _ _ (found_there (record { variable = h; over = k; result = l })) nothing_there
+  a_number : (n : ℕ) → n < 2 → FormsAreThere s (number n)
+  a_number n lt = form_there (number_there n lt)
 
-  repeat_there : (vs : List Val) → ValuesAreThere s vs → Where RepeatIsThere (repeat_from vs)
+  of_list_type : {e : Tree} → FormsAreThere s e → FormsAreThere s (the_list e)
+  of_list_type h = of_two refl (a_word refl) h
+
+  -- a variable, a form and a result make these loops
+  a_repeat : (v e r : Val) → IsThere s v → IsThere s e → IsThere s r →
+      Where (λ x. (body : Parts) → PartsAreThere body → FormsAreThere s (dotimes_form x body) × FormsAreThere s (dolist_form x body)) (repeat v e r)
+  a_repeat v e r h k l = where_if (is_symbol v) _ _ (found_there (λ body b.
+      ( a_block (a_let _ _
+          (both (a_binding (form_there h) (a_number 0 (omega arith))) (a_binding fresh_there (of_two refl (a_word refl) (form_there k))))
+          (each_append (the_forms b.declarations) (just (a_list _ (one_more (a_word refl) (one_more fresh_there (one_more
+          (of_three refl (of_two refl (form_there h) fresh_there) (of_one refl (form_there l)) (a_word refl))
+          (each_append (the_forms b.rest) (both (of_two refl (form_there h) (of_two refl (form_there h) (a_number 1 (omega arith)))) (a_jump fresh_there))))))))))
+      , a_block (a_let _ _ (just (a_binding fresh_there (of_list_type (form_there k)))) (just (a_list _ (one_more (a_word refl) (one_more fresh_there (one_more
+          (of_three refl fresh_there (a_word refl) (of_one refl (a_let _ _ (just (a_binding (form_there h) (a_word refl))) (just (form_there l)))))
+          (one_more (a_let _ _ (just (a_binding (form_there h) (of_one refl fresh_there))) (each_append (the_forms b.declarations) (just (a_call refl b.rest))))
+          (both (of_two refl fresh_there (of_list_type (of_one refl fresh_there))) (a_jump fresh_there))))))))) ))) nothing_there
+
+  repeat_there : (vs : List Val) → ValuesAreThere s vs → Where (λ x. (body : Parts) → PartsAreThere body → FormsAreThere s (dotimes_form x body) × FormsAreThere s (dolist_form x body)) (repeat_from vs)
   repeat_there [] h = nothing_there
   repeat_there (v ∷ []) h = nothing_there
   repeat_there (v ∷ e ∷ []) (one_more h (one_more k ks)) = a_repeat v e nil h k (nil_there sound)
   repeat_there (v ∷ e ∷ r ∷ []) (one_more h (one_more k (one_more l ls))) = a_repeat v e r h k l
   repeat_there (v ∷ e ∷ r ∷ x ∷ xs) h = nothing_there
 
-  repeat_at_there : (v : Val) → IsThere s v → Where RepeatIsThere (option_and_then repeat_from (elements s.heap v))
-  repeat_at_there v h = where_then repeat_from (elements_there s v h) repeat_there
-
-  a_number : (n : ℕ) → n < 2 → FormsAreThere s (number n)
-  a_number n lt = form_there (number_there n lt)
-
-  count_there : (r : Repeat) (body : List Val) → RepeatIsThere r → ValuesAreThere s body → FormsAreThere s (count_round r body)
-  count_there r body h b =
-      a_list _ (one_more (a_word w.Tagbody) (one_more fresh_there (one_more
-      (of_three w.If (of_two w.NotLess (form_there h.variable) fresh_there) (of_one w.Return (form_there h.result)) (a_word w.Nil))
-      (each_append (the_forms b) (both (of_two w.Setq (form_there h.variable) (of_two w.Add (form_there h.variable) (a_number 1 (omega arith)))) (a_jump fresh_there))))))
-
-  dotimes_form_there : (r : Repeat) (body : Parts) → RepeatIsThere r → PartsAreThere body → FormsAreThere s (dotimes_form r body)
-  dotimes_form_there r body h b =
-      a_block (a_let _ _
-      (both (a_binding (form_there h.variable) (a_number 0 (omega arith))) (a_binding fresh_there (of_two w.The (a_word w.Integer) (form_there h.over))))
-      (each_append (the_forms b.declarations) (just (count_there r body.rest h b.rest))))
-
   dotimes_there : (vs : List Val) → ValuesAreThere s vs → Where (ExpansionIsThere s) (dotimes_row s.heap vs)
   dotimes_there [] h = nothing_there
-  dotimes_there (head ∷ body) (one_more h hs) = where_map _ (repeat_at_there head h) (λ r k. plainly 2 (dotimes_form_there r _ k (body_there hs)))
-
-  of_list_type : {e : Tree} → FormsAreThere s e → FormsAreThere s (the_list e)
-  of_list_type h = of_two w.The (a_word w.List) h
-
-  list_test_there : (r : Repeat) → RepeatIsThere r → FormsAreThere s (list_test r)
-  list_test_there r h =
-      of_three w.If fresh_there (a_word w.Nil) (of_one w.Return (a_let _ _ (just (a_binding (form_there h.variable) (a_word w.Nil))) (just (form_there h.result))))
-
-  list_body_there : (r : Repeat) (body : Parts) → RepeatIsThere r → PartsAreThere body → FormsAreThere s (list_body r body)
-  list_body_there r body h b =
-      a_let _ _ (just (a_binding (form_there h.variable) (of_one w.Car fresh_there))) (each_append (the_forms b.declarations) (just (a_call w.Tagbody b.rest)))
-
-  list_round_there : (r : Repeat) (body : Parts) → RepeatIsThere r → PartsAreThere body → FormsAreThere s (list_round r body)
-  list_round_there r body h b =
-      a_list _ (one_more (a_word w.Tagbody) (one_more fresh_there (one_more (list_test_there r h) (one_more (list_body_there r body h b)
-      (both (of_two w.Setq fresh_there (of_list_type (of_one w.Cdr fresh_there))) (a_jump fresh_there))))))
+  dotimes_there (head ∷ body) (one_more h hs) = where_map _ (where_then repeat_from (elements_there s head h) repeat_there) (λ r k. plainly 2 (k _ (body_there hs)).0)
 
   dolist_there : (vs : List Val) → ValuesAreThere s vs → Where (ExpansionIsThere s) (dolist_row s.heap vs)
   dolist_there [] h = nothing_there
-  dolist_there (head ∷ body) (one_more h hs) =
-      where_map _ (repeat_at_there head h) (λ r k. plainly 2 (a_block (a_let _ _ (just (a_binding fresh_there (of_list_type (form_there k.over)))) (just (list_round_there r _ k (body_there hs))))))
+  dolist_there (head ∷ body) (one_more h hs) = where_map _ (where_then repeat_from (elements_there s head h) repeat_there) (λ r k. plainly 2 (k _ (body_there hs)).1)
 
   -- ---- SETF, INCF, DECF, PUSH, POP
 
   pub data TargetIsThere : Target → Type 0 where
     a_variable : {v : Val} → IsThere s v → TargetIsThere (variable v)
-    an_access : {op : Val} {writer : Word} {args : List Val} → IsThere s op → ValuesAreThere s args → TargetIsThere (access op writer args)
+    an_access : {op : Val} {writer : _} {args : List Val} → IsBase (word_number writer) → IsThere s op → ValuesAreThere s args → TargetIsThere (access op writer args)
+
+  find_there : {A : Type 0} {P : A → Type 0} (f : A → Bool) {xs : List A} → Each P xs → Where P (find f xs)
+  find_there f no_more = nothing_there
+  find_there f (one_more {x = x} {xs = xs} h hs) = where_if (f x) _ _ (found_there h) (find_there f hs)
+
+  writers_are_base : Each (λ p. IsBase (word_number p.1)) writers
+  writers_are_base = one_more refl (one_more refl (one_more refl (one_more refl (one_more refl (one_more refl (one_more refl (one_more refl (one_more refl (one_more refl no_more)))))))))
+
+  writer_there : (op : Val) → Where (λ writer. IsBase (word_number writer)) (writer_of op)
+  writer_there op = where_map _ (find_there (λ (p : _ × _). is_word p.0 op) writers_are_base) (λ p h. h)
 
   target_there : (vs : List Val) → ValuesAreThere s vs → Where TargetIsThere (target_from vs)
   target_there [] h = nothing_there
-  target_there (op ∷ args) (one_more h hs) = by (writer_of op)
-    where
-      by : (o : Option Word) → Where TargetIsThere (option_map (λ writer. access op writer args) o)
-      by None = nothing_there
-      by (Some writer) = found_there (an_access h hs)
+  target_there (op ∷ args) (one_more h hs) = where_map _ (writer_there op) (λ writer b. an_access b h hs)
 
   target_at_there : (v : Val) → IsThere s v → Where TargetIsThere (target_at s.heap v)
   target_at_there v h = where_if (is_symbol v) _ _ (found_there (a_variable h)) (where_then target_from (elements_there s v h) target_there)
@@ -412,45 +456,51 @@ module _ (s : Stores) (sound : AreSound s) where
   read_there : (op : Val) (k n : ℕ) → IsThere s op → FormsAreThere s (read_form op k n)
   read_there op k n h = a_list _ (one_more (form_there h) (fresh_ones k n))
 
-  write_there : (writer : Word) (k n : ℕ) {x : Tree} → FormsAreThere s x → FormsAreThere s (write_form writer k n x)
-  write_there writer k n h = a_list _ (one_more (a_word writer) (each_append (fresh_ones k n) (just h)))
+  write_there : (writer : _) (k n : ℕ) {x : Tree} → IsBase (word_number writer) → FormsAreThere s x → FormsAreThere s (write_form writer k n x)
+  write_there writer k n b h = a_list _ (one_more (a_word b) (each_append (fresh_ones k n) (just h)))
 
-  store_there : (writer : Word) (k n h : ℕ) {new : Tree} → FormsAreThere s new → FormsAreThere s (store_form writer k n h new)
-  store_there writer k n h i = a_let _ _ (just (a_binding fresh_there i)) (both (write_there writer k n fresh_there) fresh_there)
+  store_there : (writer : _) (k n h : ℕ) {new : Tree} → IsBase (word_number writer) → FormsAreThere s new → FormsAreThere s (store_form writer k n h new)
+  store_there writer k n h b i = a_let _ _ (just (a_binding fresh_there i)) (both (write_there writer k n b fresh_there) fresh_there)
 
   setf_target_there : (e : Val) (x : Target) → IsThere s e → TargetIsThere x → ExpansionIsThere s (setf_target e x)
-  setf_target_there e (variable v) k (a_variable h) = plainly 0 (of_two w.Setq (form_there h) (form_there k))
-  setf_target_there e (access op writer args) k (an_access h hs) =
-      plainly _ (a_let _ _ (each_append (bound_fresh 0 hs) (just (a_binding fresh_there (form_there k)))) (both (write_there writer 0 _ fresh_there) fresh_there))
+  setf_target_there e (variable v) k (a_variable h) = plainly 0 (of_two refl (form_there h) (form_there k))
+  setf_target_there e (access op writer args) k (an_access b h hs) =
+      plainly _ (a_let _ _ (each_append (bound_fresh 0 hs) (just (a_binding fresh_there (form_there k)))) (both (write_there writer 0 _ b fresh_there) fresh_there))
 
   setf_forms_there : (vs : List Val) → ValuesAreThere s vs → Where (TreesAreThere s) (setf_forms vs)
   setf_forms_there [] h = found_there no_more
   setf_forms_there (p ∷ []) h = nothing_there
-  setf_forms_there (p ∷ e ∷ others) (one_more h (one_more k ks)) = where_map _ (setf_forms_there others ks) (λ xs i. one_more (of_two w.Setf (form_there h) (form_there k)) i)
+  setf_forms_there (p ∷ e ∷ others) (one_more h (one_more k ks)) = where_map _ (setf_forms_there others ks) (λ xs i. one_more (of_two refl (form_there h) (form_there k)) i)
 
   setf_there : (vs : List Val) → ValuesAreThere s vs → Where (ExpansionIsThere s) (setf_row s.heap vs)
-  setf_there [] h = found_there (plainly 0 (a_word w.Nil))
+  setf_there [] h = found_there (plainly 0 (a_word refl))
   setf_there (p ∷ []) h = nothing_there
   setf_there (p ∷ e ∷ []) (one_more h (one_more k ks)) = where_map _ (target_at_there p h) (λ x i. setf_target_there e x k i)
-  setf_there (p ∷ e ∷ x ∷ xs) h = where_map setf_each (setf_forms_there (p ∷ e ∷ x ∷ xs) h) (λ ys i. plainly 0 (a_list _ (one_more (a_word w.Progn) i)))
+  setf_there (p ∷ e ∷ x ∷ xs) h = where_map setf_each (setf_forms_there (p ∷ e ∷ x ∷ xs) h) (λ ys i. plainly 0 (a_list _ (one_more (a_word refl) i)))
 
-  change_target_there : (sum : Word) (d : Val) (x : Target) → IsThere s d → TargetIsThere x → ExpansionIsThere s (change_target sum d x)
-  change_target_there sum d (variable v) k (a_variable h) = plainly 0 (of_two w.Setq (form_there h) (of_two sum (form_there h) (form_there k)))
-  change_target_there sum d (access op writer args) k (an_access h hs) =
+  changed_there : (n : ℕ) (d : Val) (x : Target) → IsBase n → IsThere s d → TargetIsThere x → ExpansionIsThere s (changed n d x)
+  changed_there n d (variable v) a k (a_variable h) = plainly 0 (of_two refl (form_there h) (of_two a (form_there h) (form_there k)))
+  changed_there n d (access op writer args) a k (an_access b h hs) =
       plainly _ (a_let _ _ (each_append (bound_fresh 0 hs) (just (a_binding fresh_there (form_there k))))
-      (just (store_there writer 0 _ _ (of_two sum (read_there op 0 _ h) fresh_there))))
+      (just (store_there writer 0 _ _ b (of_two a (read_there op 0 _ h) fresh_there))))
 
-  change_there : (sum : Word) (vs : List Val) → ValuesAreThere s vs → Where (ExpansionIsThere s) (change_row sum s.heap vs)
-  change_there sum [] h = nothing_there
-  change_there sum (p ∷ []) (one_more h hs) = where_map _ (target_at_there p h) (λ x i. change_target_there sum _ x (number_there 1 (omega arith)) i)
-  change_there sum (p ∷ d ∷ []) (one_more h (one_more k ks)) = where_map _ (target_at_there p h) (λ x i. change_target_there sum d x k i)
-  change_there sum (p ∷ d ∷ x ∷ xs) h = nothing_there
+  incf_there : (rest : Val) (vs : List Val) → ValuesAreThere s vs → Where (ExpansionIsThere s) (row m.Incf s.heap rest vs)
+  incf_there rest [] h = nothing_there
+  incf_there rest (p ∷ []) (one_more h hs) = where_map _ (target_at_there p h) (λ x i. changed_there _ _ x refl (number_there 1 (omega arith)) i)
+  incf_there rest (p ∷ d ∷ []) (one_more h (one_more k ks)) = where_map _ (target_at_there p h) (λ x i. changed_there _ d x refl k i)
+  incf_there rest (p ∷ d ∷ x ∷ xs) h = nothing_there
+
+  decf_there : (rest : Val) (vs : List Val) → ValuesAreThere s vs → Where (ExpansionIsThere s) (row m.Decf s.heap rest vs)
+  decf_there rest [] h = nothing_there
+  decf_there rest (p ∷ []) (one_more h hs) = where_map _ (target_at_there p h) (λ x i. changed_there _ _ x refl (number_there 1 (omega arith)) i)
+  decf_there rest (p ∷ d ∷ []) (one_more h (one_more k ks)) = where_map _ (target_at_there p h) (λ x i. changed_there _ d x refl k i)
+  decf_there rest (p ∷ d ∷ x ∷ xs) h = nothing_there
 
   push_target_there : (v : Val) (x : Target) → IsThere s v → TargetIsThere x → ExpansionIsThere s (push_target v x)
-  push_target_there v (variable u) k (a_variable h) = plainly 0 (of_two w.Setq (form_there h) (of_two w.Cons (form_there k) (form_there h)))
-  push_target_there v (access op writer args) k (an_access h hs) =
+  push_target_there v (variable u) k (a_variable h) = plainly 0 (of_two refl (form_there h) (of_two refl (form_there k) (form_there h)))
+  push_target_there v (access op writer args) k (an_access b h hs) =
       plainly _ (a_let _ _ (one_more (a_binding fresh_there (form_there k)) (bound_fresh 1 hs))
-      (just (store_there writer 1 _ _ (of_two w.Cons fresh_there (read_there op 1 _ h)))))
+      (just (store_there writer 1 _ _ b (of_two refl fresh_there (read_there op 1 _ h)))))
 
   push_there : (vs : List Val) → ValuesAreThere s vs → Where (ExpansionIsThere s) (push_row s.heap vs)
   push_there [] h = nothing_there
@@ -458,12 +508,12 @@ module _ (s : Stores) (sound : AreSound s) where
   push_there (x ∷ p ∷ []) (one_more h (one_more k ks)) = where_map _ (target_at_there p k) (λ t i. push_target_there x t h i)
   push_there (x ∷ p ∷ y ∷ ys) h = nothing_there
 
-  popped_there : (op : Val) (writer : Word) (n : ℕ) → IsThere s op → FormsAreThere s (popped_form op writer n)
-  popped_there op writer n h = a_let _ _ (just (a_binding fresh_there (read_there op 0 n h))) (both (write_there writer 0 n (of_one w.Cdr fresh_there)) (of_one w.Car fresh_there))
+  popped_there : (op : Val) (writer : _) (n : ℕ) → IsBase (word_number writer) → IsThere s op → FormsAreThere s (popped_form op writer n)
+  popped_there op writer n b h = a_let _ _ (just (a_binding fresh_there (read_there op 0 n h))) (both (write_there writer 0 n b (of_one refl fresh_there)) (of_one refl fresh_there))
 
   pop_target_there : (x : Target) → TargetIsThere x → ExpansionIsThere s (pop_target x)
-  pop_target_there (variable v) (a_variable h) = plainly 1 (a_kept v _ h (both (of_two w.Setq (form_there h) (of_one w.Cdr fresh_there)) (of_one w.Car fresh_there)))
-  pop_target_there (access op writer args) (an_access h hs) = plainly _ (a_let _ _ (bound_fresh 0 hs) (just (popped_there op writer _ h)))
+  pop_target_there (variable v) (a_variable h) = plainly 1 (a_kept v _ h (both (of_two refl (form_there h) (of_one refl fresh_there)) (of_one refl fresh_there)))
+  pop_target_there (access op writer args) (an_access b h hs) = plainly _ (a_let _ _ (bound_fresh 0 hs) (just (popped_there op writer _ b h)))
 
   pop_there : (vs : List Val) → ValuesAreThere s vs → Where (ExpansionIsThere s) (pop_row s.heap vs)
   pop_there [] h = nothing_there
@@ -474,8 +524,8 @@ module _ (s : Stores) (sound : AreSound s) where
 
   receive_there : (variables : List Tree) (rest : Tree) (body : List Tree) (e : Val) → TreesAreThere s variables → FormsAreThere s rest → TreesAreThere s body → IsThere s e → FormsAreThere s (receive_form variables rest body e)
   receive_there variables rest body e vs r b h =
-      of_two w.MultipleValueCall
-      (a_list _ (one_more (a_word w.Lambda) (one_more (a_list _ (one_more (a_word w.Optional) (each_append vs (both (a_word w.RestOf) r)))) b)))
+      of_two refl
+      (a_list _ (one_more (a_word refl) (one_more (a_list _ (one_more (a_word refl) (each_append vs (both (a_word refl) r)))) b)))
       (form_there h)
 
   bind_values_there : (vs : List Val) → ValuesAreThere s vs → Where (ExpansionIsThere s) (bind_values_row s.heap vs)
@@ -486,14 +536,14 @@ module _ (s : Stores) (sound : AreSound s) where
 
   list_values_there : (vs : List Val) → ValuesAreThere s vs → Where (ExpansionIsThere s) (list_values_row vs)
   list_values_there [] h = nothing_there
-  list_values_there (e ∷ []) (one_more h hs) = found_there (plainly 0 (of_two w.MultipleValueCall (of_one w.Function (a_word w.List)) (form_there h)))
+  list_values_there (e ∷ []) (one_more h hs) = found_there (plainly 0 (of_two refl (of_one refl (a_word refl)) (form_there h)))
   list_values_there (e ∷ x ∷ xs) h = nothing_there
 
   set_form_there : (e : Val) {vs : List Val} → IsThere s e → ValuesAreThere s vs → FormsAreThere s (set_form e vs)
-  set_form_there e h hs = receive_there _ _ _ e (fresh_ones 0 _) fresh_there (both (a_list _ (one_more (a_word w.Progn) (set_fresh 0 hs))) fresh_there) h
+  set_form_there e h hs = receive_there _ _ _ e (fresh_ones 0 _) fresh_there (both (a_list _ (one_more (a_word refl) (set_fresh 0 hs))) fresh_there) h
 
   set_values_there : (e : Val) (vs : List Val) → IsThere s e → ValuesAreThere s vs → Where (ExpansionIsThere s) (set_values e vs)
-  set_values_there e [] h hs = found_there (plainly 0 (of_one w.Prog1 (form_there h)))
+  set_values_there e [] h hs = found_there (plainly 0 (of_one refl (form_there h)))
   set_values_there e (v ∷ vs) h hs = where_if (all_symbols (v ∷ vs)) _ _ (found_there (plainly _ (set_form_there e h hs))) nothing_there
 
   set_values_row_there : (vs : List Val) → ValuesAreThere s vs → Where (ExpansionIsThere s) (set_values_row s.heap vs)
@@ -505,25 +555,25 @@ module _ (s : Stores) (sound : AreSound s) where
   nth_value_there : (vs : List Val) → ValuesAreThere s vs → Where (ExpansionIsThere s) (nth_value_row vs)
   nth_value_there [] h = nothing_there
   nth_value_there (n ∷ []) h = nothing_there
-  nth_value_there (n ∷ e ∷ []) (one_more h (one_more k ks)) = found_there (plainly 0 (of_two w.Nth (form_there h) (of_one w.MultipleValueList (form_there k))))
+  nth_value_there (n ∷ e ∷ []) (one_more h (one_more k ks)) = found_there (plainly 0 (of_two refl (form_there h) (of_one refl (form_there k))))
   nth_value_there (n ∷ e ∷ x ∷ xs) h = nothing_there
 
   lambda_there : (vs : List Val) → ValuesAreThere s vs → Where (ExpansionIsThere s) (lambda_row vs)
   lambda_there [] h = nothing_there
-  lambda_there (parameters ∷ body) h = found_there (plainly 0 (of_one w.Function (a_call w.Lambda h)))
+  lambda_there (parameters ∷ body) h = found_there (plainly 0 (of_one refl (a_call refl h)))
 
   -- ---- QUASIQUOTE
 
   under_there : {x : Val} → IsThere s x → FormsAreThere s (under x)
-  under_there h = of_one w.Quasiquote (form_there h)
+  under_there h = of_one refl (form_there h)
 
   joined_there : (o : Option Val) (first rest : Val) → Where (IsThere s) o → IsThere s first → IsThere s rest → FormsAreThere s (joined o first rest)
-  joined_there None first rest o h k = of_two w.Cons (under_there h) (under_there k)
-  joined_there (Some e) first rest (found_there i) h k = of_two w.Append (form_there i) (under_there k)
+  joined_there None first rest o h k = of_two refl (under_there h) (under_there k)
+  joined_there (Some e) first rest (found_there i) h k = of_two refl (form_there i) (under_there k)
 
   quasi_parts_there : (x : Val) (o : Option (Val × Val)) → IsThere s x → Where (PairIsThere s) o → FormsAreThere s (quasi_parts s.heap x o)
-  quasi_parts_there x None h o = of_one w.Quote (form_there h)
-  quasi_parts_there x (Some p) h (found_there k) = joined_there _ p.0 p.1 (marked_there w.UnquoteSplicing p.0 k.0) k.0 k.1
+  quasi_parts_there x None h o = of_one refl (form_there h)
+  quasi_parts_there x (Some p) h (found_there k) = joined_there _ p.0 p.1 (marked_there _ p.0 k.0) k.0 k.1
 
   quasi_there : (x : Val) (o : Option Val) → IsThere s x → Where (IsThere s) o → FormsAreThere s (quasi_form s.heap x o)
   quasi_there x None h o = quasi_parts_there x _ h (cons_there s x h)
@@ -531,7 +581,7 @@ module _ (s : Stores) (sound : AreSound s) where
 
   quasiquote_there : (vs : List Val) → ValuesAreThere s vs → Where (ExpansionIsThere s) (quasiquote_row s.heap vs)
   quasiquote_there [] h = nothing_there
-  quasiquote_there (x ∷ []) (one_more h hs) = found_there (plainly 0 (quasi_there x _ h (marked_there w.Unquote x h)))
+  quasiquote_there (x ∷ []) (one_more h hs) = found_there (plainly 0 (quasi_there x _ h (marked_there _ x h)))
   quasiquote_there (x ∷ y ∷ ys) h = nothing_there
 
   -- ---- the table of macros
@@ -542,24 +592,24 @@ module _ (s : Stores) (sound : AreSound s) where
   row_there m.Cond rest vs r h = cond_there rest vs r h
   row_there m.When rest vs r h = when_there vs h
   row_there m.Unless rest vs r h = unless_there vs h
-  row_there m.Case rest vs r h = case_there ByKey vs h
-  row_there m.Ecase rest vs r h = exhaustive_there ByKey vs h
-  row_there m.Typecase rest vs r h = case_there ByType vs h
-  row_there m.Etypecase rest vs r h = exhaustive_there ByType vs h
+  row_there m.Case rest vs r h = by_key_there rest vs h
+  row_there m.Ecase rest vs r h = all_keys_there rest vs h
+  row_there m.Typecase rest vs r h = by_type_there rest vs h
+  row_there m.Etypecase rest vs r h = all_types_there rest vs h
   row_there m.Loop rest vs r h = loop_there vs h
-  row_there m.Do rest vs r h = do_there Together vs h
-  row_there m.DoInOrder rest vs r h = do_there InOrder vs h
+  row_there m.Do rest vs r h = do_there rest vs h
+  row_there m.DoInOrder rest vs r h = do_in_order_there rest vs h
   row_there m.Dotimes rest vs r h = dotimes_there vs h
   row_there m.Dolist rest vs r h = dolist_there vs h
   row_there m.Return rest vs r h = return_there vs h
-  row_there m.Prog rest vs r h = prog_there Together vs h
-  row_there m.ProgInOrder rest vs r h = prog_there InOrder vs h
+  row_there m.Prog rest vs r h = prog_there rest vs h
+  row_there m.ProgInOrder rest vs r h = prog_in_order_there rest vs h
   row_there m.Prog1 rest vs r h = prog1_there vs h
   row_there m.Prog2 rest vs r h = prog2_there vs h
   row_there m.Psetq rest vs r h = psetq_there vs h
   row_there m.Setf rest vs r h = setf_there vs h
-  row_there m.Incf rest vs r h = change_there w.Add vs h
-  row_there m.Decf rest vs r h = change_there w.Subtract vs h
+  row_there m.Incf rest vs r h = incf_there rest vs h
+  row_there m.Decf rest vs r h = decf_there rest vs h
   row_there m.Push rest vs r h = push_there vs h
   row_there m.Pop rest vs r h = pop_there vs h
   row_there m.MultipleValueBind rest vs r h = bind_values_there vs h

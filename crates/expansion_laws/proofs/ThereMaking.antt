@@ -96,7 +96,7 @@ module _ (s : Stores) where
 
   choice_whole : (p : Place) (x y z : Core) → PlaceIsThere s p → Whole s x → Whole s y → Whole s z → Whole s (tree.If p x y z)
   unfolding gather
-  choice_whole p x y z h k l m = one_more (a_bare (tree.If p x y z) h refl refl refl refl refl) (each_append k (each_append l m))
+  choice_whole p x y z h k l m = one_more (a_bare (tree.If p x y z) h refl refl refl refl refl) (each_append (each_append k l) m)
 
   abbrev Wholes : Cores → Type 0
   Wholes es = PartsAreThere s (gather_all node_part text_part es)
@@ -156,8 +156,8 @@ variable_there_for s false n x h = one_more h no_more
 parameter_safe : (b : Binder) {w : World} → IsInOrder w → BinderIsThere (stores_of w) b → Safe w ParameterIsThere (parameter b w)
 unfolding parameter
 parameter_safe b o h =
-    then_safe (look_safe {P = λ (s : Stores) (x : Bool). Unit {0}} (λ w. is_special w b) o tt) (λ special u l k.
-    then_safe (numbers_safe (numbers_for special) l.order) (λ n x m i.
+    then_safe _ _ (look_safe {P = λ (s : Stores) (x : Bool). Unit {0}} (λ w. is_special w b) o tt) (λ special u l k.
+    then_safe _ _ (numbers_safe (numbers_for special) l.order) (λ n x m i.
     look_safe {P = ParameterIsThere} (λ w. parameter_for w b n) m.order (there n x m.order (binder_stays (grown_on l.grown m.grown) b h))))
   where
     there : (n : ℕ) (x : World) → IsInOrder x → BinderIsThere (stores_of x) b → ParameterIsThere (stores_of x) (parameter_for x b n)
@@ -168,7 +168,7 @@ bound_stays g b h = record { binder = binder_stays g b.0 h.binder; parameter = p
 
 bound_safe : (b : Binder) {w : World} → IsInOrder w → BinderIsThere (stores_of w) b → Safe w BoundIsThere (bound b w)
 unfolding bound
-bound_safe b o h = then_safe (parameter_safe b o h) (λ x u l k. pure_safe _ l.order (record { binder = binder_stays l.grown b h; parameter = k }))
+bound_safe b o h = then_safe _ _ (parameter_safe b o h) (λ x u l k. pure_safe _ l.order (record { binder = binder_stays l.grown b h; parameter = k }))
 
 abbrev BoundList : Stores → List Bound → Type 0
 BoundList s bs = Each (BoundIsThere s) bs
@@ -180,12 +180,12 @@ each_bound_safe : (bs : List Binder) {w : World} → IsInOrder w → Each (Binde
 unfolding bound_each
 each_bound_safe [] o h = pure_safe [] o no_more
 each_bound_safe (b ∷ bs) o (one_more h hs) =
-    then_safe (bound_safe b o h) (λ x u l k. then_safe (each_bound_safe bs l.order (binders_stay l.grown hs)) (λ xs y m ks. pure_safe _ m.order (one_more (bound_stays m.grown x k) ks)))
+    then_safe _ _ (bound_safe b o h) (λ x u l k. then_safe _ _ (each_bound_safe bs l.order (binders_stay l.grown hs)) (λ xs y m ks. pure_safe _ m.order (one_more (bound_stays m.grown x k) ks)))
 
 some_bound_safe : (b : Option Binder) {w : World} → IsInOrder w → Where (BinderIsThere (stores_of w)) b → Safe w MaybeBound (bound_some b w)
 unfolding bound_some
 some_bound_safe None o h = pure_safe None o nothing_there
-some_bound_safe (Some b) o (found_there h) = then_safe (bound_safe b o h) (λ x u l k. pure_safe _ l.order (found_there k))
+some_bound_safe (Some b) o (found_there h) = then_safe _ _ (bound_safe b o h) (λ x u l k. pure_safe _ l.order (found_there k))
 
 -- a variable with the form for its value
 abbrev ValueIsThere : Stores → Bound × Val → Type 0
@@ -201,8 +201,8 @@ initials_safe : (bs : List Initial) {w : World} → IsInOrder w → Each (Initia
 unfolding bound_initials
 initials_safe [] o h = pure_safe [] o no_more
 initials_safe (b ∷ bs) o (one_more h hs) =
-    then_safe (bound_safe b.binder o h.binder) (λ x u l k.
-    then_safe (initials_safe bs l.order (each_map (initial_stays l.grown) hs)) (λ xs y m ks. pure_safe _ m.order (one_more (bound_stays m.grown x k, value_stays (grown_on l.grown m.grown) b.value h.value) ks)))
+    then_safe _ _ (bound_safe b.binder o h.binder) (λ x u l k.
+    then_safe _ _ (initials_safe bs l.order (each_map (initial_stays l.grown) hs)) (λ xs y m ks. pure_safe _ m.order (one_more (bound_stays m.grown x k, value_stays (grown_on l.grown m.grown) b.value h.value) ks)))
 
 pub record OptionalBound (s : Stores) (o : BoundOptional) : Type 0 where
   pub bound : BoundIsThere s o.bound
@@ -219,9 +219,9 @@ optionals_safe : (os : List Optional') {w : World} → IsInOrder w → Each (Opt
 unfolding bound_optionals
 optionals_safe [] o h = pure_safe [] o no_more
 optionals_safe (x ∷ xs) o (one_more h hs) =
-    then_safe (bound_safe x.binder o h.binder) (λ b u l k.
-    then_safe (some_bound_safe x.supplied l.order (binder_may_stay l.grown h.supplied)) (λ c y m i.
-    then_safe (optionals_safe xs m.order (each_map (optional_stays (grown_on l.grown m.grown)) hs)) (λ bs z n ks.
+    then_safe _ _ (bound_safe x.binder o h.binder) (λ b u l k.
+    then_safe _ _ (some_bound_safe x.supplied l.order (binder_may_stay l.grown h.supplied)) (λ c y m i.
+    then_safe _ _ (optionals_safe xs m.order (each_map (optional_stays (grown_on l.grown m.grown)) hs)) (λ bs z n ks.
     let g = grown_on m.grown n.grown in
     pure_safe _ n.order (one_more (record { bound = bound_stays g b k; default = value_stays (grown_on l.grown g) x.default h.default; supplied = where_each i (bound_stays n.grown) }) ks))))
 

@@ -1,5 +1,5 @@
 -- What is read of forms that are there is there: bodies, declarations and lambda lists.
-use Rattle.std.specs.Prelude.{◌≡◌, refl, ℕ, zero, suc, ◌+◌, Bool, true, false, List, [], ◌∷◌, ◌++◌, take, drop, Option, Some, None, if◌then◌else◌, slice_get}
+use Rattle.std.specs.Prelude.{◌≡◌, refl, ℕ, zero, suc, ◌+◌, Bool, true, false, ◌||◌, List, [], ◌∷◌, ◌++◌, take, drop, Option, Some, None, if◌then◌else◌, slice_get}
 use Rattle.std.specs.List.{list_all, position}
 use Rattle.std.specs.Option.{option_map, option_and_then}
 use Rattle.std.proofs.Common.{arith}
@@ -14,15 +14,10 @@ use Rattle.lisp_base.specs.Tables.{Table, Object}
 use Rattle.lisp_forms.specs.Conses.{cons_at, elements}
 use Rattle.type_spec.specs.Parsing.{specifier}
 use Rattle.declarations.specs.declared.policy.Policy.{Policy}
-use Rattle.declarations.specs.declared.policy.Setting.{Setting}
-use Rattle.declarations.specs.declared.subject.Subject.{Subject}
-use Rattle.declarations.specs.declared.subject.Subject.TheVariants as about
 use Rattle.declarations.specs.Bodies as bodies
 use Rattle.declarations.specs.Bodies.{Body, body_of}
-use Rattle.declarations.specs.Policies.{setting_of, is_refused}
-use Rattle.declarations.specs.Declarations.{Typed, Declared, make_declared, Reading, declared, bad_form, bad_type, bad_policy, and_then, read_each, add_type, add_types, add_special, with_setting, set_quality, subject_of, typing, by_subject, read_parts, if_list, read_specifier, read_list, read_rest, read_declaration, nothing, tested, read_declarations, read_specifiers}
-use Rattle.lambda_lists.specs.declared.parameters.Section.{Section}
-use Rattle.lambda_lists.specs.declared.parameters.Section.TheVariants.{Optional, Key}
+use Rattle.declarations.specs.Policies.{is_same, setting_of, is_refused}
+use Rattle.declarations.specs.Declarations.{Typed, Declared, make_declared, Reading, declared, bad_form, bad_type, bad_policy, and_then, read_each, add_type, add_types, add_special, with_setting, set_quality, subject_named, subject_of, typing, by_subject, read_parts, if_list, read_specifier, read_list, read_rest, read_declaration, nothing, tested, read_declarations, read_specifiers}
 use Rattle.lambda_lists.specs.LambdaLists.{Default, LambdaList, can_be_bound, variable, default_with, listed_default, default_at, auxiliary_with, auxiliary_at, each, each_in, keys_in, rest_in, cut_at, cut, Sections, sections, make_list, list_of_sections, lambda_list}
 use Rattle.expansion_laws.specs.There.{Stores, stores, SymbolIsThere, IsThere, TypeIsThere, AreSound, Grown, TypedIsThere}
 use Rattle.expansion_laws.proofs.ThereLists.{Each, no_more, one_more, Where, nothing_there, found_there, where_then, where_map, where_if, each_map, each_append, each_last, each_take, each_drop}
@@ -75,7 +70,7 @@ module _ (s : Stores) where
   special_added d (Sym x) h i = is_declared (record { types = h.types; specials = each_last x h.specials (symbol_of_there x i) })
   special_added d (Ref o) h i = no_form
 
-  setting_added : (d : Declared) (o : Option Setting) → DeclaredAreThere s d → WhereDeclared s (with_setting d o)
+  setting_added : (d : Declared) (o : _) → DeclaredAreThere s d → WhereDeclared s (with_setting d o)
   setting_added d None h = no_form
   setting_added d (Some x) h = is_declared (record { types = h.types; specials = h.specials })
 
@@ -83,18 +78,25 @@ module _ (s : Stores) where
   typing_read d [] h no_more = no_form
   typing_read d (t ∷ vs) h (one_more k ks) = types_added d vs (specifier s.heap s.table t) h ks (specifier_lawful s.heap s.table t)
 
-  subject_read :
-      (d : Declared) (first : Val) (rest : List Val) (a : Subject) → DeclaredAreThere s d → IsThere s first → ValuesAreThere s rest →
-      WhereDeclared s (by_subject s.heap s.table d first rest a)
-  subject_read d first rest about.Type h k ks = typing_read d rest h ks
-  subject_read d first rest about.Special h k ks = each_read add_special special_added d rest h ks
-  subject_read d first rest about.Policy h k ks = each_read (set_quality s.heap) (λ e v i j. setting_added e (setting_of s.heap v) i) d rest h ks
-  subject_read d first rest about.Nothing h k ks = is_declared h
-  subject_read d first rest about.ThatType h k ks = typing_read d (first ∷ rest) h (one_more k ks)
+  either_read : {A : Type 0} (f : A → Reading) (b : Bool) (x y : A) → WhereDeclared s (f x) → WhereDeclared s (f y) → WhereDeclared s (f (if b then x else y))
+  either_read f true x y h k = h
+  either_read f false x y h k = k
+
+  -- a specifier that begins with a symbol
+  symbol_read : (d : Declared) (x : SymId) (rest : List Val) → DeclaredAreThere s d → IsThere s (Sym x) → ValuesAreThere s rest → WhereDeclared s (by_subject s.heap s.table d (Sym x) rest (subject_named x))
+  unfolding subject_named
+  symbol_read d x rest h k ks =
+      either_read (by_subject s.heap s.table d (Sym x) rest) (is_same x at.TYPE) _ _ (typing_read d rest h ks)
+      (either_read (by_subject s.heap s.table d (Sym x) rest) (is_same x at.SPECIAL) _ _ (each_read add_special special_added d rest h ks)
+      (either_read (by_subject s.heap s.table d (Sym x) rest) (is_same x at.OPTIMIZE) _ _ (each_read (set_quality s.heap) (λ e v i j. setting_added e (setting_of s.heap v) i) d rest h ks)
+      (either_read (by_subject s.heap s.table d (Sym x) rest) (is_same x at.IGNORE || (is_same x at.IGNORABLE || (is_same x at.INLINE || (is_same x at.NOTINLINE || is_same x at.DYNAMIC_EXTENT)))) _ _ (is_declared h) (typing_read d (Sym x ∷ rest) h (one_more k ks)))))
 
   parts_read : (d : Declared) (vs : List Val) → DeclaredAreThere s d → ValuesAreThere s vs → WhereDeclared s (read_parts s.heap s.table d vs)
   parts_read d [] h no_more = no_form
-  parts_read d (first ∷ rest) h (one_more k ks) = subject_read d first rest (subject_of first) h k ks
+  parts_read d (Int z ∷ rest) h ks = typing_read d (Int z ∷ rest) h ks
+  parts_read d (Char c ∷ rest) h ks = typing_read d (Char c ∷ rest) h ks
+  parts_read d (Sym x ∷ rest) h (one_more k ks) = symbol_read d x rest h k ks
+  parts_read d (Ref o ∷ rest) h ks = typing_read d (Ref o ∷ rest) h ks
 
   list_read : (f : List Val → Reading) (m : Option (List Val)) → Where (ValuesAreThere s) m → ((vs : List Val) → ValuesAreThere s vs → WhereDeclared s (f vs)) → WhereDeclared s (if_list f m)
   list_read f None w k = no_form
@@ -209,15 +211,11 @@ module _ (s : Stores) (sound : AreSound s) where
       where_then _ (variable_there v h) (λ x k. where_map _ (variable_there y j) (λ z l. record { variable = k; value = i; supplied = found_there l }))
   default_there (v ∷ e ∷ y ∷ x ∷ xs) h = nothing_there
 
-  listed_there : (section : Section) (vs : List Val) → ValuesAreThere s vs → Where (DefaultIsThere s) (listed_default section s.table vs)
-  listed_there Optional vs h = default_there vs h
-  listed_there Key [] h = nothing_there
-  listed_there Key (v ∷ []) h = nothing_there
-  listed_there Key (v ∷ e ∷ vs) h = default_there (v ∷ e ∷ vs) h
-
-  default_at_there : (section : Section) (v : Val) → IsThere s v → Where (DefaultIsThere s) (default_at section s.heap s.table v)
-  default_at_there section v h =
-      where_if (is_symbol v) _ _ (default_there (v ∷ []) (one_more h no_more)) (where_then _ (elements_there s v h) (listed_there section))
+  -- of a section whose lists are read so
+  default_at_there : (listed : List Val → Option Default) (v : Val) → ((vs : List Val) → ValuesAreThere s vs → Where (DefaultIsThere s) (listed vs)) → IsThere s v →
+      Where (DefaultIsThere s) (if is_symbol v then default_with s.table (v ∷ []) else option_and_then listed (elements s.heap v))
+  default_at_there listed v k h =
+      where_if (is_symbol v) _ _ (default_there (v ∷ []) (one_more h no_more)) (where_then _ (elements_there s v h) k)
 
   auxiliary_there : (vs : List Val) → ValuesAreThere s vs → Where (NamedValueIsThere s) (auxiliary_with s.table vs)
   auxiliary_there [] h = nothing_there
@@ -235,7 +233,8 @@ module _ (s : Stores) (sound : AreSound s) where
 
   keys_there : (m : Option (List Val)) → Where (ValuesAreThere s) m → Where (Where (Each (DefaultIsThere s))) (keys_in s.heap s.table m)
   keys_there None h = found_there nothing_there
-  keys_there (Some vs) (found_there h) = where_map Some (each_found _ (default_at_there Key) h) (λ ds k. found_there k)
+  keys_there (Some vs) (found_there h) = 
+      where_map Some (each_found _ (λ v i. default_at_there _ v (elim [ [] ↦ λ j. nothing_there | a ∷ [] ↦ λ j. nothing_there | a ∷ b ∷ xs ↦ λ j. default_there (a ∷ b ∷ xs) j ]) i) h) (λ ds k. found_there k)
 
   rest_there : (m : Option (List Val)) → Where (ValuesAreThere s) m → Where (Where (SymbolIsThere s)) (rest_in s.table m)
   rest_there None h = found_there nothing_there
@@ -248,7 +247,7 @@ module _ (s : Stores) (sound : AreSound s) where
 
   cut_at_there : (n : Option ℕ) (vs : List Val) → ValuesAreThere s vs → CutIsThere (cut_at n vs)
   cut_at_there None vs h = (h, nothing_there)
-  cut_at_there (Some n) vs h = (each_take n h, found_there (each_drop (n + 1) h))
+  cut_at_there (Some n) vs h = (each_take n vs h, found_there (each_drop (n + 1) vs h))
 
   cut_there : (word : SymId) (vs : List Val) → ValuesAreThere s vs → CutIsThere (cut word vs)
   cut_there word vs h = cut_at_there (position (is_symbol_number (number_of word)) vs) vs h
@@ -264,7 +263,7 @@ module _ (s : Stores) (sound : AreSound s) where
   of_sections_there : (x : Sections) → SectionsAreThere s x → Where (LambdaListIsThere s) (list_of_sections s.heap s.table x)
   of_sections_there x h =
       where_then _ (each_found (variable s.table) variable_there h.required) (λ required a.
-      where_then _ (in_section (default_at Optional s.heap s.table) x.optional (default_at_there Optional) h.optional) (λ optional b.
+      where_then _ (in_section _ x.optional (λ v i. default_at_there _ v default_there i) h.optional) (λ optional b.
       where_then _ (rest_there x.rest h.rest) (λ rest c.
       where_then _ (keys_there x.keys h.keys) (λ keys d.
       where_map _ (in_section (auxiliary_at s.heap s.table) x.auxiliary auxiliary_at_there h.auxiliary) (λ auxiliary e.

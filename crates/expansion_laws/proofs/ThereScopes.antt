@@ -86,11 +86,11 @@ module _ (s : Stores) (t : Target) where
 
   all_set : (found : List Spec) (cs : List Check) → Each (TypeIsThere s) found → Each (CheckIsThere s) cs → Each (TypeIsThere s) (fold (and_set t) found cs)
   all_set found [] h no_more = h
-  all_set found (c ∷ cs) h (one_more k ks) = all_set _ cs (one_set found c h k) ks
+  all_set found (c ∷ cs) h (one_more k ks) = all_set (and_set t found c) cs (one_set found c h k) ks
 
   all_used : (found : List Spec) (cs : List Check) → Each (TypeIsThere s) found → Each (CheckIsThere s) cs → Each (TypeIsThere s) (fold (and_used t) found cs)
   all_used found [] h no_more = h
-  all_used found (c ∷ cs) h (one_more k ks) = all_used _ cs (one_used found c h k) ks
+  all_used found (c ∷ cs) h (one_more k ks) = all_used (and_used t found c) cs (one_used found c h k) ks
 
   pub types_set_there : (sc : Scope) → ScopeIsThere s sc → Each (TypeIsThere s) (types_set sc t)
   unfolding types_set
@@ -117,11 +117,11 @@ module _ (s : Stores) where
 
   specials_there : (xs : List SymId) (sc : Scope) → ScopeIsThere s sc → Each (SymbolIsThere s) xs → ScopeIsThere s (fold with_special sc xs)
   specials_there [] sc h k = h
-  specials_there (x ∷ xs) sc h (one_more k ks) = specials_there xs _ (with_variable_there x (Global x) [] sc h k no_more) ks
+  specials_there (x ∷ xs) sc h (one_more k ks) = specials_there xs (with_special sc x) (with_variable_there x (Global x) [] sc h k no_more) ks
 
   types_there : (ts : List Typed) (sc : Scope) → ScopeIsThere s sc → Each (TypedIsThere s) ts → ScopeIsThere s (fold with_type sc ts)
   types_there [] sc h k = h
-  types_there (t ∷ ts) sc h (one_more k ks) = types_there ts _ (record { place = h.place; variables = h.variables; checks = each_last _ h.checks k.1 }) ks
+  types_there (t ∷ ts) sc h (one_more k ks) = types_there ts (with_type sc t) (record { place = h.place; variables = h.variables; checks = each_last _ h.checks k.1 }) ks
 
   pub declared_in_there : (d : Declared) (sc : Scope) → DeclaredAreThere s d → ScopeIsThere s sc → ScopeIsThere s (declared_in d sc)
   unfolding declared_in
@@ -153,7 +153,7 @@ module _ (s : Stores) where
 
   pub with_all_there : (sc : Scope) (bs : List Bound) → ScopeIsThere s sc → Each BoundIsThere bs → ScopeIsThere s (with_all sc bs)
   with_all_there sc [] h k = h
-  with_all_there sc (b ∷ bs) h (one_more k ks) = with_all_there _ bs (with_bound_there sc b h k) ks
+  with_all_there sc (b ∷ bs) h (one_more k ks) = with_all_there (with_bound sc b) bs (with_bound_there sc b h k) ks
 
   pub with_some_there : (sc : Scope) (b : Option Bound) → ScopeIsThere s sc → Where BoundIsThere b → ScopeIsThere s (with_some sc b)
   with_some_there sc None h k = h
@@ -167,7 +167,7 @@ module _ (s : Stores) where
 
   pub with_definitions_there : (heap : List Object) (n : ℕ) (vs : List Val) (sc : Scope) → ScopeIsThere s sc → ScopeIsThere s (with_definitions heap n vs sc)
   with_definitions_there heap n [] sc h = h
-  with_definitions_there heap n (v ∷ vs) sc h = with_definitions_there heap _ vs _ (with_named_there (definition_name sc heap v) n sc h)
+  with_definitions_there heap n (v ∷ vs) sc h = with_definitions_there heap (suc n) vs (with_named (definition_name sc heap v) n sc) (with_named_there (definition_name sc heap v) n sc h)
 
   either_there : (b : Bool) (x y : Scope) → ScopeIsThere s x → ScopeIsThere s y → ScopeIsThere s (if b then x else y)
   either_there true x y h k = h

@@ -11,9 +11,9 @@ use Rattle.expansion_laws.proofs.ThereLists.{Each, Where, nothing_there, found_t
 use Rattle.expansion_laws.proofs.ThereStores.{grown_same, grown_on, typed_stays}
 
 -- sound stores, and what has been proclaimed in the file is there
-pub record AreInOrder (s : Stores) (specials : List SymId) (declaimed : List Typed) : Type 0 where
+pub record AreInOrder (s : Stores) (proclaimed : List SymId) (declaimed : List Typed) : Type 0 where
   pub sound : AreSound s
-  pub specials : Each (SymbolIsThere s) specials
+  pub specials : Each (SymbolIsThere s) proclaimed
   pub types : Each (TypedIsThere s) declaimed
 
 abbrev pub IsInOrder : World → Type 0
@@ -77,13 +77,13 @@ module _ {A B : Type 0} {P : Stores → A → Type 0} {Q : Stores → B → Type
   answer_then f stops k = stops
   answer_then f (goes {a = a} {u = u} l h) k = safe_from l (k a u l h)
 
-  pub then_safe : {w : World} {m : Step A} {f : A → Step B} → Safe w P (m w) → ((a : A) (u : World) → Later w u → P (stores_of u) a → Safe u Q (f a u)) → Safe w Q ((m >>= f) w)
+  pub then_safe : {w : World} (m : Step A) (f : A → Step B) → Safe w P (m w) → ((a : A) (u : World) → Later w u → P (stores_of u) a → Safe u Q (f a u)) → Safe w Q ((m >>= f) w)
   unfolding ◌>>=◌
-  then_safe {f = f} h k = answer_then f h k
+  then_safe m f h k = answer_then f h k
 
-  pub next_safe : {w : World} {m : Step A} {f : Step B} → Safe w P (m w) → ((a : A) (u : World) → Later w u → P (stores_of u) a → Safe u Q (f u)) → Safe w Q ((m >> f) w)
+  pub next_safe : {w : World} (m : Step A) (f : Step B) → Safe w P (m w) → ((a : A) (u : World) → Later w u → P (stores_of u) a → Safe u Q (f u)) → Safe w Q ((m >> f) w)
   unfolding ◌>>◌
-  next_safe h k = then_safe h k
+  next_safe m f h k = then_safe m (λ _. f) h k
 
 -- ---- counting
 

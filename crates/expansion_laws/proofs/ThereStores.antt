@@ -4,7 +4,7 @@ use Rattle.std.specs.List.{list_all}
 use Rattle.std.specs.Option.{option_map, option_and_then}
 use Rattle.std.proofs.Common.{ap, sym, subst, ◌∙◌, arith, append_assoc, ◌⊎◌, inl, inr}
 use Rattle.std.proofs.lemmas.List.{append-nil, length-append}
-use Rattle.std.proofs.lemmas.Bool.{and_parts, and_from}
+use Rattle.std.proofs.lemmas.Bool.{and_parts, and_from, ltb-true}
 use Rattle.std.proofs.lemmas.Bool.Decides.{nat_tests}
 use Rattle.lisp_base.specs.declared.values.Place.{Place}
 use Rattle.lisp_base.specs.declared.values.Place.TheVariants as places
@@ -83,7 +83,7 @@ module _ {s t : Stores} (g : Grown s t) where
 
   reached_before : (v : Val) → IsThere s v → (u : Val) → Reached t.heap v u → Reached s.heap v u
   reached_before v h u itself = itself
-  reached_before v h w (within u w r c) =
+  reached_before v h x (within u w r c) =
       let before = reached_before v h u r in
       within u w before (subst (λ (xs : List Val). Contains xs w) (values_kept u (h.reached u before)) c)
 
@@ -145,8 +145,8 @@ module _ {s t : Stores} (g : Grown s t) where
   target_stays (Global x) h = symbol_stays x h
 
   pub check_stays : (x : Check) → CheckIsThere s x → CheckIsThere t x
-  check_stays (of_binding target spec) h = type_stays spec h
-  check_stays (of_uses target spec) h = type_stays spec h
+  check_stays (of_binding target x) h = type_stays x h
+  check_stays (of_uses target x) h = type_stays x h
   check_stays (rebound x) h = tt
 
   pub name_stays : (x : SymId × Target) → NameIsThere s x → NameIsThere t x
@@ -157,14 +157,14 @@ values_are_kept old new v g h = value_stays g v h
 
 -- ---- the symbols that every table begins with
 
-names_count : length base_symbols ≡ 310
+names_count : length base_symbols ≡ 314
 unfolding base_names lambda_list_names left_out_names helper_names
 names_count = refl
 
 -- what a value without others in it reaches
 only_itself : (heap : List Object) (v u : Val) → values_at heap v ≡ [] → Reached heap v u → u ≡ v
 only_itself heap v u e itself = refl
-only_itself heap v w e (within u w r c) =
+only_itself heap v x e (within u w r c) =
     let same = only_itself heap v u e r in
     let none : Contains [] w = subst (λ (xs : List Val). Contains xs w) (ap (values_at heap) same ∙ e) c in
     absurd (omega (arith, none.1))
@@ -181,12 +181,19 @@ present_symbol x (a_symbol h) = h
 pub symbol_of_there : {s : Stores} (x : SymId) → IsThere s (Sym x) → SymbolIsThere s x
 symbol_of_there x h = present_symbol x (h.reached (Sym x) itself)
 
+-- the number of a base name
+abbrev pub IsBase : ℕ → Type 0
+IsBase n = nat_lt n 314 ≡ true
+
 module _ {s : Stores} (sound : AreSound s) where
-  pub base_symbol_there : (n : ℕ) → n < 310 → SymbolIsThere s (symbol n)
+  pub base_symbol_there : (n : ℕ) → n < 314 → SymbolIsThere s (symbol n)
   base_symbol_there n lt =
       longer base_symbols s.table.symbols sound.begins.0 n sound.begins.1 (rw names_count lt)
 
-  pub base_there : (n : ℕ) → n < 310 → IsThere s (Sym (symbol n))
+  pub based : (n : ℕ) → IsBase n → SymbolIsThere s (symbol n)
+  based n b = base_symbol_there n (ltb-true n 314 b)
+
+  pub base_there : (n : ℕ) → n < 314 → IsThere s (Sym (symbol n))
   base_there n lt = symbol_there (symbol n) (base_symbol_there n lt)
 
   pub nil_there : IsThere s nil
@@ -213,7 +220,7 @@ ValuesAreThere s vs = Each (IsThere s) vs
 
 reached_on : {heap : List Object} (v u w : Val) → Reached heap v u → Reached heap u w → Reached heap v w
 reached_on v u w r itself = r
-reached_on v u w r (within x w k c) = within x w (reached_on v u x r k) c
+reached_on v u y r (within x w k c) = within x w (reached_on v u x r k) c
 
 -- what is in a value that is there is there
 inner_there : (s : Stores) (v w : Val) → IsThere s v → Contains (values_at s.heap v) w → IsThere s w
@@ -266,7 +273,7 @@ module _ (s : Stores) where
 
 first_step : {heap : List Object} (v u : Val) → Reached heap v u → (u ≡ v) ⊎ ((w : Val) × Contains (values_at heap v) w × Reached heap w u)
 first_step v u itself = inl refl
-first_step {heap} v w (within u w r c) = by (first_step v u r)
+first_step {heap} v y (within u w r c) = by (first_step v u r)
   where
     by : (u ≡ v) ⊎ ((x : Val) × Contains (values_at heap v) x × Reached heap x u) → (w ≡ v) ⊎ ((x : Val) × Contains (values_at heap v) x × Reached heap x w)
     by (inl e) = inr (w, subst (λ (y : Val). Contains (values_at heap y) w) e c, itself)
@@ -276,7 +283,7 @@ pub cons_is_there : (s : Stores) (o : ObjId) (car cdr : Val) → slice_get s.hea
 cons_is_there s o car cdr e h k = record { reached = λ u r. by u (first_step (Ref o) u r) }
   where
     part : (w : Val) → Contains (values_at s.heap (Ref o)) w → IsThere s w
-    part w c = all_contained (car ∷ cdr ∷ []) w (each_all (one_more h (one_more k no_more))) (subst (λ (xs : List Val). Contains xs w) (ap values_within e) c)
+    part w c = all_contained (IsThere s) (car ∷ cdr ∷ []) w (each_all {P = IsThere s} (one_more h (one_more k no_more))) (subst (λ (xs : List Val). Contains xs w) (ap values_within e) c)
 
     by : (u : Val) → (u ≡ Ref o) ⊎ ((w : Val) × Contains (values_at s.heap (Ref o)) w × Reached s.heap w u) → IsPresent s u
     by u (inl same) = subst (IsPresent s) (sym same) (an_object e tt)

@@ -130,33 +130,33 @@ each_split (x ∷ xs) (one_more h hs) = let k = each_split xs hs in (one_more h 
 module _ {A : Type 0} (s : Stores) (g : Core → List A) (h : FunctionText → List A) (P : A → Type 0)
     (nodes : (e : Core) → NodeIsThere s e → Each P (g e)) (texts : (f : FunctionText) → TextIsThere s f → Each P (h f)) where
   mutual
+    unfolding gather gather_all gather_bindings gather_optionals gather_lambda gather_definitions gather_items
     pub gathered : (e : Core) → Whole s e → Each P (gather g h e)
-    unfolding gather
     gathered (Quote p v) w = nodes _ (each_head w)
     gathered (Local p x) w = nodes _ (each_head w)
     gathered (SetLocal p x e) w = each_append (nodes _ (each_head w)) (gathered e (each_tail w))
     gathered (Global p x) w = nodes _ (each_head w)
     gathered (SetGlobal p x e) w = each_append (nodes _ (each_head w)) (gathered e (each_tail w))
     gathered (If p a b c) w =
-        let k = each_split (gather node_part text_part a) (each_tail w) in
-        let l = each_split (gather node_part text_part b) k.1 in
-        each_append (nodes _ (each_head w)) (each_append (gathered a k.0) (each_append (gathered b l.0) (gathered c l.1)))
+        let k = each_split (gather node_part text_part a ++ gather node_part text_part b) (each_tail w) in
+        let l = each_split (gather node_part text_part a) k.0 in
+        each_append (each_append (each_append (nodes _ (each_head w)) (gathered a l.0)) (gathered b l.1)) (gathered c k.1)
     gathered (Progn p es) w = each_append (nodes _ (each_head w)) (all_gathered es (each_tail w))
     gathered (Let p bs e) w =
         let k = each_split (gather_bindings node_part text_part bs) (each_tail w) in
-        each_append (nodes _ (each_head w)) (each_append (bindings_gathered bs k.0) (gathered e k.1))
+        each_append (each_append (nodes _ (each_head w)) (bindings_gathered bs k.0)) (gathered e k.1)
     gathered (Function p l) w = each_append (nodes _ (each_head w)) (lambda_gathered None p l (each_tail w))
     gathered (Labels p ds e) w =
         let k = each_split (gather_definitions node_part text_part ds) (each_tail w) in
-        each_append (nodes _ (each_head w)) (each_append (definitions_gathered ds k.0) (gathered e k.1))
+        each_append (each_append (nodes _ (each_head w)) (definitions_gathered ds k.0)) (gathered e k.1)
     gathered (CallLocal p f es) w = each_append (nodes _ (each_head w)) (all_gathered es (each_tail w))
     gathered (CallGlobal p x es) w = each_append (nodes _ (each_head w)) (all_gathered es (each_tail w))
     gathered (Funcall p e es) w =
-        let k = each_split (gather node_part text_part e) (each_tail w) in each_append (nodes _ (each_head w)) (each_append (gathered e k.0) (all_gathered es k.1))
+        let k = each_split (gather node_part text_part e) (each_tail w) in each_append (each_append (nodes _ (each_head w)) (gathered e k.0)) (all_gathered es k.1)
     gathered (Apply p e es) w =
-        let k = each_split (gather node_part text_part e) (each_tail w) in each_append (nodes _ (each_head w)) (each_append (gathered e k.0) (all_gathered es k.1))
+        let k = each_split (gather node_part text_part e) (each_tail w) in each_append (each_append (nodes _ (each_head w)) (gathered e k.0)) (all_gathered es k.1)
     gathered (MvCall p e es) w =
-        let k = each_split (gather node_part text_part e) (each_tail w) in each_append (nodes _ (each_head w)) (each_append (gathered e k.0) (all_gathered es k.1))
+        let k = each_split (gather node_part text_part e) (each_tail w) in each_append (each_append (nodes _ (each_head w)) (gathered e k.0)) (all_gathered es k.1)
     gathered (FunLocal p f) w = nodes _ (each_head w)
     gathered (FunGlobal p x) w = nodes _ (each_head w)
     gathered (SetFun p x e) w = each_append (nodes _ (each_head w)) (gathered e (each_tail w))
@@ -168,44 +168,38 @@ module _ {A : Type 0} (s : Stores) (g : Core → List A) (h : FunctionText → L
     gathered (Tagbody p is) w = each_append (nodes _ (each_head w)) (items_gathered is (each_tail w))
     gathered (Go p t) w = nodes _ (each_head w)
     gathered (Catch p a b) w =
-        let k = each_split (gather node_part text_part a) (each_tail w) in each_append (nodes _ (each_head w)) (each_append (gathered a k.0) (gathered b k.1))
+        let k = each_split (gather node_part text_part a) (each_tail w) in each_append (each_append (nodes _ (each_head w)) (gathered a k.0)) (gathered b k.1)
     gathered (Throw p a b) w =
-        let k = each_split (gather node_part text_part a) (each_tail w) in each_append (nodes _ (each_head w)) (each_append (gathered a k.0) (gathered b k.1))
+        let k = each_split (gather node_part text_part a) (each_tail w) in each_append (each_append (nodes _ (each_head w)) (gathered a k.0)) (gathered b k.1)
     gathered (Unwind p a b) w =
-        let k = each_split (gather node_part text_part a) (each_tail w) in each_append (nodes _ (each_head w)) (each_append (gathered a k.0) (gathered b k.1))
+        let k = each_split (gather node_part text_part a) (each_tail w) in each_append (each_append (nodes _ (each_head w)) (gathered a k.0)) (gathered b k.1)
     gathered (Values p es) w = each_append (nodes _ (each_head w)) (all_gathered es (each_tail w))
     gathered (MvProg1 p a b) w =
-        let k = each_split (gather node_part text_part a) (each_tail w) in each_append (nodes _ (each_head w)) (each_append (gathered a k.0) (gathered b k.1))
+        let k = each_split (gather node_part text_part a) (each_tail w) in each_append (each_append (nodes _ (each_head w)) (gathered a k.0)) (gathered b k.1)
 
     all_gathered : (es : Cores) → PartsAreThere s (gather_all node_part text_part es) → Each P (gather_all g h es)
-    unfolding gather_all
     all_gathered no_core w = no_more
     all_gathered (core e es) w = let k = each_split (gather node_part text_part e) w in each_append (gathered e k.0) (all_gathered es k.1)
 
     bindings_gathered : (bs : Bindings) → PartsAreThere s (gather_bindings node_part text_part bs) → Each P (gather_bindings g h bs)
-    unfolding gather_bindings
     bindings_gathered no_binding w = no_more
     bindings_gathered (binding x e bs) w = let k = each_split (gather node_part text_part e) w in each_append (gathered e k.0) (bindings_gathered bs k.1)
 
     optionals_gathered : (os : Optionals) → PartsAreThere s (gather_optionals node_part text_part os) → Each P (gather_optionals g h os)
-    unfolding gather_optionals
     optionals_gathered no_optional w = no_more
     optionals_gathered (optional x e r os) w = let k = each_split (gather node_part text_part e) w in each_append (gathered e k.0) (optionals_gathered os k.1)
 
     lambda_gathered : (name : Option SymId) (p : Place) (l : Lambda) → PartsAreThere s (gather_lambda node_part text_part name p l) → Each P (gather_lambda g h name p l)
-    unfolding gather_lambda
     lambda_gathered name p (lambda n xs os r e) w =
         let k = each_split (gather_optionals node_part text_part os) (each_tail w) in
-        each_append (texts _ (each_head w)) (each_append (optionals_gathered os k.0) (gathered e k.1))
+        each_append (each_append (texts _ (each_head w)) (optionals_gathered os k.0)) (gathered e k.1)
 
     definitions_gathered : (ds : Definitions) → PartsAreThere s (gather_definitions node_part text_part ds) → Each P (gather_definitions g h ds)
-    unfolding gather_definitions
     definitions_gathered no_definition w = no_more
     definitions_gathered (define p f n l ds) w =
         let k = each_split (gather_lambda node_part text_part (Some n) p l) w in each_append (lambda_gathered (Some n) p l k.0) (definitions_gathered ds k.1)
 
     items_gathered : (is : Items) → PartsAreThere s (gather_items node_part text_part is) → Each P (gather_items g h is)
-    unfolding gather_items
     items_gathered no_item w = no_more
     items_gathered (tag n v is) w = items_gathered is w
     items_gathered (step e is) w = let k = each_split (gather node_part text_part e) w in each_append (gathered e k.0) (items_gathered is k.1)

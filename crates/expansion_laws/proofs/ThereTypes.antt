@@ -14,9 +14,7 @@ use Rattle.lisp_base.specs.declared.types.Bound.TheVariants as bound
 use Rattle.lisp_base.specs.Spec.{Spec, Named, Integer, Signed, Unsigned, Mod, Member, Eql, And, Or, Not, Specs, no_spec, spec, spec_size}
 use Rattle.lisp_base.specs.Tables.{Table, Object}
 use Rattle.lisp_base.specs.Lawful.{is_integer_value, is_item, is_bound, is_width, has_lawful_parts, all_lawful_parts, most_parts, IsLawful}
-use Rattle.type_spec.specs.declared.words.Operator.{Operator}
-use Rattle.type_spec.specs.declared.words.Operator.TheVariants as op
-use Rattle.type_spec.specs.Forms.{cons_at, is_nil, only_of, operator_at, type_at, word_at, width_of, count_of, item_of, integer_of, open_of, bound_of, upper_of, bounds_of, first_of}
+use Rattle.type_spec.specs.Forms.{cons_at, is_nil, only_of, operator_of, operator_at, type_at, word_at, width_of, count_of, item_of, integer_of, open_of, bound_of, upper_of, bounds_of, first_of}
 use Rattle.type_spec.specs.Parsing.{items_within, with_operands, parsed, all_parsed, if_small, specifier}
 use Rattle.expansion_laws.proofs.ThereLists.{Where, nothing_there, found_there, where_then, where_map, where_if, where_passed, where_all}
 
@@ -27,6 +25,10 @@ Passes f a = f a ≡ true
 pub where_first : {A : Type 0} {P : A → Type 0} (m n : Option A) → Where P m → Where P n → Where P (first_of m n)
 where_first (Some a) n h k = h
 where_first None n h k = k
+
+either : {A B : Type 0} {Q : B → Type 0} (f : A → Option B) (b : Bool) (x y : Option A) → Where Q (option_and_then f x) → Where Q (option_and_then f y) → Where Q (option_and_then f (if b then x else y))
+either f true x y h k = h
+either f false x y h k = k
 
 abbrev is_count : ℤ → Bool
 is_count z = int_le (pos 1) z && is_integer_value z
@@ -99,29 +101,38 @@ module _ (heap : List Object) (table : Table) where
   AllParts ts = all_lawful_parts table ts ≡ true
 
   operands_lawful :
-      (o : Operator) (v : Val) (items : Val → Option (List Val)) (one : Val → Option Spec) (all : Val → Option Specs) →
+      (word : List ℕ) (v : Val) (items : Val → Option (List Val)) (one : Val → Option Spec) (all : Val → Option Specs) →
       ((x : Val) → Where ItemsPass (items x)) → ((x : Val) → Where Parts (one x)) → ((x : Val) → Where AllParts (all x)) →
-      Where Parts (with_operands heap table o v items one all)
-  operands_lawful op.Integer v items one all i p a = where_map _ (bounds_lawful v) (λ b h. h)
-  operands_lawful op.Signed v items one all i p a = where_map Signed (where_then width_of (anything (only_of heap v)) (λ x h. width_lawful x)) (λ n h. h)
-  operands_lawful op.Unsigned v items one all i p a = where_map Unsigned (where_then width_of (anything (only_of heap v)) (λ x h. width_lawful x)) (λ n h. h)
-  operands_lawful op.Mod v items one all i p a = where_map Mod (where_then count_of (anything (only_of heap v)) (λ x h. count_lawful x)) (λ n h. h)
-  operands_lawful op.Member v items one all i p a = where_map Member (i v) (λ xs h. h)
-  operands_lawful op.Eql v items one all i p a = where_map Eql (where_then (item_of table) (anything (only_of heap v)) (λ x h. item_lawful x)) (λ x h. h)
-  operands_lawful op.And v items one all i p a = where_map And (a v) (λ ts h. h)
-  operands_lawful op.Or v items one all i p a = where_map Or (a v) (λ ts h. h)
-  operands_lawful op.Not v items one all i p a = where_map Not (where_then one (anything (only_of heap v)) (λ x h. p x)) (λ t h. h)
+      Where Parts (option_and_then (λ o. with_operands heap table o v items one all) (operator_of word))
+  unfolding operator_of
+  operands_lawful word v items one all i p a =
+      either _ (bytes_eq word (codes "INTEGER")) _ _ (where_map _ (bounds_lawful v) (λ b h. h))
+      (either _ (bytes_eq word (codes "SIGNED-BYTE")) _ _ (where_map Signed (where_then width_of (anything (only_of heap v)) (λ x h. width_lawful x)) (λ n h. h))
+      (either _ (bytes_eq word (codes "UNSIGNED-BYTE")) _ _ (where_map Unsigned (where_then width_of (anything (only_of heap v)) (λ x h. width_lawful x)) (λ n h. h))
+      (either _ (bytes_eq word (codes "MOD")) _ _ (where_map Mod (where_then count_of (anything (only_of heap v)) (λ x h. count_lawful x)) (λ n h. h))
+      (either _ (bytes_eq word (codes "MEMBER")) _ _ (where_map Member (i v) (λ xs h. h))
+      (either _ (bytes_eq word (codes "EQL")) _ _ (where_map Eql (where_then (item_of table) (anything (only_of heap v)) (λ x h. item_lawful x)) (λ x h. h))
+      (either _ (bytes_eq word (codes "AND")) _ _ (where_map And (a v) (λ ts h. h))
+      (either _ (bytes_eq word (codes "OR")) _ _ (where_map Or (a v) (λ ts h. h))
+      (either _ (bytes_eq word (codes "NOT")) _ _ (where_map Not (where_then one (anything (only_of heap v)) (λ x h. p x)) (λ t h. h))
+      nothing_there))))))))
+
+  operator_lawful :
+      (word : Option (List ℕ)) (v : Val) (items : Val → Option (List Val)) (one : Val → Option Spec) (all : Val → Option Specs) →
+      ((x : Val) → Where ItemsPass (items x)) → ((x : Val) → Where Parts (one x)) → ((x : Val) → Where AllParts (all x)) →
+      Where Parts (option_and_then (λ o. with_operands heap table o v items one all) (option_and_then operator_of word))
+  operator_lawful None v items one all i p a = nothing_there
+  operator_lawful (Some word) v items one all i p a = operands_lawful word v items one all i p a
 
   mutual
+    unfolding parsed all_parsed
     parsed_lawful : (n : ℕ) (v : Val) → Where Parts (parsed n heap table v)
-    unfolding parsed
     parsed_lawful zero v = nothing_there
     parsed_lawful (suc n) v =
         where_first _ _ (where_map Named (anything (type_at table v)) (λ t h. refl))
-        (where_then _ (anything (cons_at heap v)) (λ p h. where_then _ (anything (operator_at table p.0)) (λ o k. operands_lawful o p.1 _ _ _ (items_lawful n) (parsed_lawful n) (all_lawful n))))
+        (where_then _ (anything (cons_at heap v)) (λ p h. operator_lawful (word_at table p.0) p.1 _ _ _ (items_lawful n) (parsed_lawful n) (all_lawful n)))
 
     all_lawful : (n : ℕ) (v : Val) → Where AllParts (all_parsed n heap table v)
-    unfolding all_parsed
     all_lawful zero v = nothing_there
     all_lawful (suc n) v =
         where_if (is_nil v) _ _ (found_there refl)
