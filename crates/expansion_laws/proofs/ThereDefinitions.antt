@@ -66,6 +66,7 @@ module _ (sc : Scope) where
   definable_there s v h = where_then _ (symbol_in_there s v h) (λ x k. where_if (is_reserved x && not sc.is_fixed) _ _ nothing_there (found_there k))
 
   definition_there : (s : Stores) (x : SymId) (f : Function) → SymbolIsThere s x → FunctionIsThere s f → SketchIsThere s (definition x f)
+  unfolding definition
   definition_there s x f h k = a_many tt (the_sketches (one_more (a_unary h (a_recursive h k)) (one_more (a_constant (symbol_there x h)) no_more)))
 
   pub tail_there : (s : Stores) (v : Val) → AreSound s → IsThere s v → IsThere s (tail_of s.heap v)
@@ -79,7 +80,7 @@ module _ (sc : Scope) where
   unfolding defun_plan
   defun_safe arguments [] here i h = refuse_safe BadForm sc
   defun_safe arguments (n ∷ vs) {w} here i (one_more h hs) =
-      then_safe _ _ (expect_safe sc _ here.order (definable_there (stores_of w) n h)) (λ x u l k.
+      then_safe _ _ (expect_safe {P = SymbolIsThere} sc _ here.order (definable_there (stores_of w) n h)) (λ x u l k.
       then_safe _ _ (then_safe _ _ (look_safe {P = IsThere} (λ w. tail_of w.heap arguments) l.order (tail_there (stores_of u) arguments l.order.sound (value_stays l.grown arguments i))) (λ v y m j. function_safe sc (Some x) v m.order j (found_there (symbol_stays m.grown x k))))
       (λ f y m j. makes_safe _ m.order (definition_there (stores_of y) x f (symbol_stays m.grown x k) j)))
 
@@ -93,12 +94,14 @@ module _ (sc : Scope) where
   proclaimed_safe x {w} o h = changed_safe (with_proclaimed x) (record { sound = o.sound; specials = each_last x o.specials h; types = o.types }) (grown_same (stores_of w))
 
   global_set_there : (x : SymId) (v : Val) (w : World) → Here w sc → SymbolIsThere (stores_of w) x → IsThere (stores_of w) v → SketchIsThere (stores_of w) (global_set sc x v w)
+  unfolding global_set
   global_set_there x v w here h k = set_target_there sc (Global x) x (form v) w here h (a_form k)
 
   and_name_there : (s : Stores) (x : SymId) {y : Sketch} → AreSound s → SymbolIsThere s x → SketchIsThere s y → SketchIsThere s (and_name x y)
   and_name_there s x sound h k = a_progn _ sound (one_more k (one_more (a_constant (symbol_there x h)) no_more))
 
   unless_bound_there : (s : Stores) (x : SymId) {y : Sketch} → AreSound s → SymbolIsThere s x → SketchIsThere s y → SketchIsThere s (unless_bound x y)
+  unfolding unless_bound
   unless_bound_there s x sound h k = a_choice (a_primitive q.Boundp (one_more (a_constant (symbol_there x h)) no_more)) (a_constant (nil_there sound)) k
 
   variable_safe : (v : Val) {w : World} → IsInOrder w → IsThere (stores_of w) v → Safe w SymbolIsThere ((look (λ w. variable_in w.table v) >>= expect sc) w)
@@ -280,7 +283,7 @@ module _ (sc : Scope) where
         (next_safe _ _
           (then_safe _ _ (look_safe {P = λ (s : Stores) (b : Bool). Unit {0}} (λ w. is_given (lambda_in w.heap operator)) here.order tt) (λ b u l i. only_safe sc b l.order))
           (λ a u l i. look_safe {P = λ (s : Stores) (m : Option (List Val)). Where (ValuesAreThere s) m} (λ w. elements w.heap arguments) l.order (elements_there (stores_of u) arguments (value_stays l.grown arguments k))))
-        (λ m u l i. expect_safe sc m l.order i))
+        (λ m u l i. expect_safe {P = ValuesAreThere} sc m l.order i))
       (λ vs u l i. lambda_on_safe operator vs (here_on l here) (value_stays l.grown operator h) i)
 
   -- ---- all forms

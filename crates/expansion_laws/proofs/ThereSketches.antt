@@ -92,7 +92,7 @@ mutual
 -- ---- they stay
 
 module _ {s t : Stores} (g : Grown s t) where
-  leaf_stays : (l : Leaf) → LeafIsThere s l → LeafIsThere t l
+  pub leaf_stays : (l : Leaf) → LeafIsThere s l → LeafIsThere t l
   leaf_stays (Constant v) h = value_stays g v h
   leaf_stays (LocalVariable n) h = tt
   leaf_stays (GlobalVariable x) h = symbol_stays g x h

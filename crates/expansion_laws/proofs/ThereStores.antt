@@ -49,6 +49,38 @@ pub get_last : {A : Type 0} (xs : List A) (x : A) → slice_get (xs ++ x ∷ [])
 get_last [] x = refl
 get_last (y ∷ xs) x = get_last xs x
 
+-- a table that has the symbols of another
+module _ (s t : Stores) (k : (x : SymId) → SymbolIsThere s x → SymbolIsThere t x) where
+  item_stays : (v : Val) → is_item s.table v ≡ true → is_item t.table v ≡ true
+  item_stays (Int z) h = h
+  item_stays (Char c) h = h
+  item_stays (Sym x) h = grind (arith, nat_tests, k x)
+  item_stays (Ref o) h = h
+
+  items_stay : (vs : List Val) → list_all (is_item s.table) vs ≡ true → list_all (is_item t.table) vs ≡ true
+  items_stay [] h = refl
+  items_stay (v ∷ vs) h = let both = and_parts _ _ h in and_from _ _ (item_stays v both.0) (items_stay vs both.1)
+
+  mutual
+    parts_stay : (x : Spec) → has_lawful_parts s.table x ≡ true → has_lawful_parts t.table x ≡ true
+    parts_stay (Named name) h = refl
+    parts_stay (Integer lo hi) h = h
+    parts_stay (Signed bits) h = h
+    parts_stay (Unsigned bits) h = h
+    parts_stay (Mod n) h = h
+    parts_stay (Member items) h = items_stay items h
+    parts_stay (Eql item) h = item_stays item h
+    parts_stay (And ts) h = all_parts_stay ts h
+    parts_stay (Or ts) h = all_parts_stay ts h
+    parts_stay (Not x) h = parts_stay x h
+
+    all_parts_stay : (xs : Specs) → all_lawful_parts s.table xs ≡ true → all_lawful_parts t.table xs ≡ true
+    all_parts_stay no_spec h = refl
+    all_parts_stay (spec x xs) h = let both = and_parts _ _ h in and_from _ _ (parts_stay x both.0) (all_parts_stay xs both.1)
+
+  pub type_kept : (x : Spec) → TypeIsThere s x → TypeIsThere t x
+  type_kept x h = record { parts = parts_stay x h.parts; size = h.size }
+
 module _ {s t : Stores} (g : Grown s t) where
   pub symbol_stays : (x : SymId) → SymbolIsThere s x → SymbolIsThere t x
   symbol_stays x h = longer s.table.symbols t.table.symbols g.symbols.0 (number_of x) g.symbols.1 h
@@ -90,35 +122,8 @@ module _ {s t : Stores} (g : Grown s t) where
   pub value_stays : (v : Val) → IsThere s v → IsThere t v
   value_stays v h = record { reached = λ u r. present_stays u (h.reached u (reached_before v h u r)) }
 
-  item_stays : (v : Val) → is_item s.table v ≡ true → is_item t.table v ≡ true
-  item_stays (Int z) h = h
-  item_stays (Char c) h = h
-  item_stays (Sym x) h = grind (arith, nat_tests, symbol_stays x)
-  item_stays (Ref o) h = h
-
-  items_stay : (vs : List Val) → list_all (is_item s.table) vs ≡ true → list_all (is_item t.table) vs ≡ true
-  items_stay [] h = refl
-  items_stay (v ∷ vs) h = let k = and_parts _ _ h in and_from _ _ (item_stays v k.0) (items_stay vs k.1)
-
-  mutual
-    parts_stay : (x : Spec) → has_lawful_parts s.table x ≡ true → has_lawful_parts t.table x ≡ true
-    parts_stay (Named name) h = refl
-    parts_stay (Integer lo hi) h = h
-    parts_stay (Signed bits) h = h
-    parts_stay (Unsigned bits) h = h
-    parts_stay (Mod n) h = h
-    parts_stay (Member items) h = items_stay items h
-    parts_stay (Eql item) h = item_stays item h
-    parts_stay (And ts) h = all_parts_stay ts h
-    parts_stay (Or ts) h = all_parts_stay ts h
-    parts_stay (Not x) h = parts_stay x h
-
-    all_parts_stay : (xs : Specs) → all_lawful_parts s.table xs ≡ true → all_lawful_parts t.table xs ≡ true
-    all_parts_stay no_spec h = refl
-    all_parts_stay (spec x xs) h = let k = and_parts _ _ h in and_from _ _ (parts_stay x k.0) (all_parts_stay xs k.1)
-
   pub type_stays : (x : Spec) → TypeIsThere s x → TypeIsThere t x
-  type_stays x h = record { parts = parts_stay x h.parts; size = h.size }
+  type_stays x h = type_kept s t symbol_stays x h
 
   pub types_stay : (xs : List Spec) → Each (TypeIsThere s) xs → Each (TypeIsThere t) xs
   types_stay xs h = each_map type_stays h
