@@ -16,3 +16,4 @@ pub mod ThereForms
 pub mod ThereDefinitions
 pub mod ThereMaking
 pub mod ThereLaws
+pub mod TherePartLaws

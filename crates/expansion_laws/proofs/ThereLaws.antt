@@ -70,10 +70,10 @@ same_within (Some (Fun lambda cells)) = refl
 same_within (Some (Cell v)) = refl
 
 module _ (p : Program) (s : Stores) (h : Holds p s) where
-  object_held : (n : ℕ) → slice_get p.heap n ≡ option_map object_of (slice_get s.heap n)
+  pub object_held : (n : ℕ) → slice_get p.heap n ≡ option_map object_of (slice_get s.heap n)
   object_held n = ap (λ (xs : List _). slice_get xs n) h.heap ∙ get_map object_of s.heap n
 
-  same_values : (v : Val) → values_in p v ≡ values_at s.heap v
+  pub same_values : (v : Val) → values_in p v ≡ values_at s.heap v
   same_values (Int z) = refl
   same_values (Char c) = refl
   same_values (Sym x) = refl
@@ -83,7 +83,7 @@ module _ (p : Program) (s : Stores) (h : Holds p s) where
   reached_there v u lawful.itself = itself
   reached_there v x (lawful.within u w r c) = within u w (reached_there v u r) (subst (λ (xs : List Val). Contains xs w) (same_values u) c)
 
-  as_many : length p.symbols ≡ length s.table.symbols
+  pub as_many : length p.symbols ≡ length s.table.symbols
   as_many = ap length h.symbols ∙ length-map s.table.symbols symbol_of
 
   symbol_held : (x : SymId) → SymbolIsThere s x → number_of x < length p.symbols
