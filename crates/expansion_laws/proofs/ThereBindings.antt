@@ -1,27 +1,24 @@
 -- Sketches of bindings and of functions, whose parts are there.
-use Rattle.std.specs.Prelude.{◌≡◌, refl, ℕ, Bool, true, false, not, List, [], ◌∷◌, ◌++◌, map, filter, Option, Some, None, if◌then◌else◌}
-use Rattle.std.specs.Option.{option_map}
+use Rattle.std.specs.Prelude.{Bool, true, false, List, [], ◌∷◌, Option, Some, None, if◌then◌else◌}
 use Rattle.lisp_base.specs.declared.values.SymId.{SymId}
 use Rattle.lisp_base.specs.declared.values.Val.{Val}
-use Rattle.lisp_base.specs.Spec.{Spec}
 use Rattle.lisp_base.specs.Tables.{Table, Object, made_fresh}
-use Rattle.lisp_forms.specs.Conses.{elements}
-use Rattle.declarations.specs.Bodies.{Body, body_of}
-use Rattle.declarations.specs.Declarations.{Typed, Declared, Reading, declared, bad_form, bad_type, bad_policy, read_declarations}
-use Rattle.lambda_lists.specs.LambdaLists.{Default, LambdaList, lambda_list, KeyForms, key_forms}
+use Rattle.declarations.specs.Bodies.{Body}
+use Rattle.declarations.specs.Declarations.{Typed, Declared, Reading, declared, bad_form, bad_type, bad_policy}
+use Rattle.lambda_lists.specs.LambdaLists.{Default, LambdaList, KeyForms, key_forms}
 use Rattle.expansion.specs.declared.kind.ExpandKind.TheVariants.{BadForm, BadType, BadPolicy, TooManySymbols}
 use Rattle.expansion.specs.Scopes.{Scope, same_symbol}
-use Rattle.expansion.specs.Steps.{World, Step, ◌>>=◌, pure, refuse, expect, look}
-use Rattle.expansion.specs.Sketches.{Binder, Initial, Optional', Sketch, form, choice, bind, block, within, Function, function_of, body}
-use Rattle.expansion.specs.Bindings.{is_among, types_of, binder, bound_by, undeclared, bound_before, others, Contents, contents, declared_or, read_body, contents_of, initial, names, initials, let_sketch, nested, let_in_order, if_supplied, optional_names, parameter_names, optional_by, parameters_round, in_block, body_within, plain_function, keyed_function, with_table, with_stores, fresh_by, fresh_symbol, rest_or_fresh, keys_by, make_keys, with_keys, function_with, function_from, function_sketch}
+use Rattle.expansion.specs.Steps.{World, ◌>>=◌, expect, look}
+use Rattle.expansion.specs.Sketches.{Sketch}
+use Rattle.expansion.specs.Bindings.{is_among, types_of, bound_by, undeclared, bound_before, others, Contents, declared_or, read_body, contents_of, initial, names, let_sketch, nested, let_in_order, optional_by, parameters_round, in_block, body_within, plain_function, keyed_function, with_stores, fresh_by, fresh_symbol, rest_or_fresh, keys_by, make_keys, with_keys, function_with, function_from, function_sketch}
 use Rattle.expansion_laws.specs.There.{Stores, stores, stores_of, SymbolIsThere, IsThere, TypeIsThere, AreSound, Grown, TypedIsThere}
-use Rattle.expansion_laws.proofs.ThereLists.{Each, no_more, one_more, Where, nothing_there, found_there, where_each, where_map, each_map, each_append, each_mapped, each_filter}
+use Rattle.expansion_laws.proofs.ThereLists.{Each, no_more, one_more, Where, found_there, where_each, where_map, each_map, each_append, each_mapped, each_filter}
 use Rattle.expansion_laws.proofs.ThereStores.{ValuesAreThere, values_stay, symbol_stays, typed_stays, elements_there}
-use Rattle.expansion_laws.proofs.ThereReading.{DeclaredAreThere, declared_stay, WhereDeclared, is_declared, no_form, no_type, no_policy, declarations_read, BodyIsThere, body_there, DefaultIsThere, NamedValueIsThere, LambdaListIsThere, lambda_list_there}
-use Rattle.expansion_laws.proofs.ThereBuilding.{Made, fresh_made, SymbolMade}
-use Rattle.expansion_laws.proofs.ThereKeys.{default_stays, defaults_stay, named_value_stays, KeyFormsAreThere, key_forms_made, KeyFormsMade}
-use Rattle.expansion_laws.proofs.ThereSteps.{IsInOrder, Later, Safe, stops, goes, pure_safe, look_safe, refuse_safe, expect_safe, then_safe}
-use Rattle.expansion_laws.proofs.ThereSketches.{BinderIsThere, InitialIsThere, OptionalIsThere, SketchIsThere, a_form, a_choice, a_bind, a_block, a_within, FunctionIsThere, of_parts, sketch_stays, a_body}
+use Rattle.expansion_laws.proofs.ThereReading.{DeclaredAreThere, declared_stay, WhereDeclared, is_declared, declarations_read, BodyIsThere, body_there, DefaultIsThere, NamedValueIsThere, LambdaListIsThere, lambda_list_there}
+use Rattle.expansion_laws.proofs.ThereBuilding.{fresh_made, SymbolMade}
+use Rattle.expansion_laws.proofs.ThereKeys.{defaults_stay, named_value_stays, KeyFormsAreThere, key_forms_made, KeyFormsMade}
+use Rattle.expansion_laws.proofs.ThereSteps.{IsInOrder, Later, Safe, goes, pure_safe, look_safe, refuse_safe, expect_safe, then_safe}
+use Rattle.expansion_laws.proofs.ThereSketches.{BinderIsThere, OptionalIsThere, SketchIsThere, a_form, a_choice, a_bind, a_block, a_within, FunctionIsThere, of_parts, a_body}
 
 -- what a test of the world finds, or a refusal
 pub found_safe : {A : Type 0} (P : Stores → A → Type 0) (sc : Scope) (f : World → Option A) {w : World} → IsInOrder w → Where (P (stores_of w)) (f w) → Safe w P ((look f >>= expect sc) w)

@@ -1,22 +1,19 @@
 -- What is built of what is there is there: forms of trees, and symbols that a table takes in. The stores stay sound and grow.
-use Rattle.std.specs.Prelude.{◌≡◌, refl, ℕ, zero, suc, ◌+◌, ◌<◌, ◌≤◌, Bool, true, false, nat_lt, List, [], ◌∷◌, ◌++◌, length, slice_index_or, Option, Some, None, if◌then◌else◌}
+use Rattle.std.specs.Prelude.{◌≡◌, refl, ℕ, zero, suc, ◌<◌, Bool, true, false, nat_lt, List, [], ◌∷◌, ◌++◌, length, Some, None, if◌then◌else◌}
 use Rattle.std.specs.List.{position_or_len}
-use Rattle.std.specs.Option.{option_map, option_and_then}
-use Rattle.std.proofs.Common.{ap, sym, subst, ◌∙◌, arith, append_assoc}
+use Rattle.std.proofs.Common.{ap, sym, ◌∙◌, arith, append_assoc}
 use Rattle.std.proofs.lemmas.List.{append-nil, length-append}
 use Rattle.std.proofs.lemmas.Bool.{ltb-true}
 use Rattle.lisp_base.specs.declared.values.SymKind.{SymKind}
-use Rattle.lisp_base.specs.declared.values.SymKind.TheVariants as kinds
 use Rattle.lisp_base.specs.declared.values.SymId.{SymId}
 use Rattle.lisp_base.specs.declared.values.Val.{Val}
-use Rattle.lisp_base.specs.declared.values.Val.TheVariants.{Int, Char, Sym, Ref}
-use Rattle.lisp_base.specs.Sort.{nil, number_of, symbol, object}
-use Rattle.lisp_base.specs.Tables.{Symbol, make_symbol, Table, make_table, most_symbols, is_symbol, added, found_or_added, interned, fresh_name, made_fresh, Object, Cons, base_symbols, BeginsWithNames}
+use Rattle.lisp_base.specs.Sort.{nil, symbol}
+use Rattle.lisp_base.specs.Tables.{Symbol, make_symbol, Table, make_table, most_symbols, is_symbol, added, found_or_added, interned, made_fresh, Object, Cons, base_symbols}
 use Rattle.lisp_forms.specs.Trees.{Tree, form, fresh, inner, listed, Trees, none, also, trees}
-use Rattle.lisp_forms.specs.Building.{made_cons, made_list, with_first, built, built_each}
+use Rattle.lisp_forms.specs.Building.{made_cons, made_list, built, built_each}
 use Rattle.std_macros.specs.Expanding.{fresh_symbols, built_around}
 use Rattle.expansion_laws.specs.There.{Stores, stores, SymbolIsThere, IsThere, AreSound, Grown}
-use Rattle.expansion_laws.proofs.ThereLists.{Each, no_more, one_more, Where, nothing_there, found_there, where_then, where_map, where_if, where_passed, each_map, each_append, each_index}
+use Rattle.expansion_laws.proofs.ThereLists.{Each, no_more, one_more, Where, nothing_there, found_there, where_then, where_map, where_if, each_map, each_index}
 use Rattle.expansion_laws.proofs.ThereStores.{ValuesAreThere, grown_same, grown_on, value_stays, values_stay, symbol_stays, symbol_there, nil_there, get_last, cons_is_there}
 
 -- ---- what is made

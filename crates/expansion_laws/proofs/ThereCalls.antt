@@ -1,10 +1,9 @@
 -- Sketches of calls, whose arguments are there.
-use Rattle.std.specs.Prelude.{◌≡◌, refl, ℕ, ◌<◌, pos, negsuc, List, [], ◌∷◌, length, Option, Some, None, Bool, true, false, if◌then◌else◌}
+use Rattle.std.specs.Prelude.{refl, ℕ, ◌<◌, negsuc, List, [], ◌∷◌, length, Option, Some, None}
 use Rattle.std.specs.Option.{option_and_then}
 use Rattle.std.proofs.Common.{arith}
 use Rattle.lisp_base.specs.declared.values.SymId.{SymId}
 use Rattle.lisp_base.specs.declared.values.Val.{Val}
-use Rattle.lisp_base.specs.declared.values.Val.TheVariants.{Int}
 use Rattle.lisp_base.specs.declared.primitives.Primitive.{Primitive as Operation}
 use Rattle.lisp_base.specs.declared.primitives.Primitive.TheVariants as q
 use Rattle.lisp_base.specs.declared.types.TypeName.{TypeName}
@@ -14,19 +13,18 @@ use Rattle.lisp_base.specs.Sort.{number_of, nil, truth}
 use Rattle.lisp_base.specs.Spec.{Named}
 use Rattle.lisp_base.specs.Lawful.{most_parts}
 use Rattle.core_form.specs.Checked.{operation_takes}
-use Rattle.core_form.specs.Primitives.{most_arguments}
 use Rattle.expansion.specs.declared.operator.Direct.{Direct}
 use Rattle.expansion.specs.declared.operator.Direct.TheVariants as direct
 use Rattle.expansion.specs.Operators.{direct_of}
 use Rattle.expansion.specs.Scopes.{Scope, value_or}
-use Rattle.expansion.specs.Steps.{World, Step, only_if}
-use Rattle.expansion.specs.Sketches.{Sketch, form, one, many, Checking, Testing, sketches, forms, constant, primitive}
-use Rattle.expansion.specs.Calls.{integer, minus_one, folded, fold_call, subtraction, with_one, on_two, reading, signalling, type_test, direct_sketch, first_of, primitive_on, primitive_sketch, calls_global, global_call, calls_local, few}
-use Rattle.expansion_laws.specs.There.{Stores, stores_of, SymbolIsThere, IsThere, TypeIsThere, AreSound}
-use Rattle.expansion_laws.proofs.ThereLists.{Each, no_more, one_more, Where, nothing_there, found_there, where_then, where_map, where_if}
+use Rattle.expansion.specs.Steps.{World}
+use Rattle.expansion.specs.Sketches.{Sketch, constant}
+use Rattle.expansion.specs.Calls.{integer, minus_one, folded, fold_call, subtraction, with_one, on_two, reading, signalling, type_test, direct_sketch, first_of, primitive_on, global_call, calls_local, few}
+use Rattle.expansion_laws.specs.There.{Stores, SymbolIsThere, TypeIsThere, AreSound}
+use Rattle.expansion_laws.proofs.ThereLists.{Each, no_more, one_more, Where, nothing_there, found_there, where_if}
 use Rattle.expansion_laws.proofs.ThereStores.{ValuesAreThere, nil_there, truth_there, number_there, integer_there}
 use Rattle.expansion_laws.proofs.ThereSteps.{IsInOrder, Safe, Nothing, only_safe}
-use Rattle.expansion_laws.proofs.ThereSketches.{SketchIsThere, a_form, a_leaf, a_unary, a_many, the_sketches, the_forms, a_constant, a_primitive}
+use Rattle.expansion_laws.proofs.ThereSketches.{SketchIsThere, a_form, a_unary, a_many, the_sketches, the_forms, a_constant, a_primitive}
 
 pub named_type_there : (s : Stores) (t : TypeName) → TypeIsThere s (Named t)
 unfolding most_parts

@@ -1,55 +1,39 @@
 -- What is to be done with a form that is there: definitions, macros, calls, and all forms.
-use Rattle.std.specs.Prelude.{◌≡◌, refl, ℕ, Bool, true, false, ◌&&◌, ◌||◌, not, ◌==◌, nat_le, List, [], ◌∷◌, ◌++◌, length, Option, Some, None, if◌then◌else◌}
-use Rattle.std.specs.Option.{option_map, option_and_then}
+use Rattle.std.specs.Prelude.{◌≡◌, refl, ℕ, Bool, true, false, ◌&&◌, not, ◌==◌, List, [], ◌∷◌, Option, Some, None, if◌then◌else◌}
 use Rattle.lisp_base.specs.declared.base_symbols.TheConstants as at
 use Rattle.lisp_base.specs.declared.primitives.Primitive.TheVariants as q
 use Rattle.lisp_base.specs.declared.values.SymId.{SymId}
 use Rattle.lisp_base.specs.declared.values.Val.{Val}
 use Rattle.lisp_base.specs.declared.values.Val.TheVariants.{Int, Char, Sym, Ref}
-use Rattle.lisp_base.specs.Membership.{is_symbol_number}
-use Rattle.lisp_base.specs.Sort.{nil, number_of}
-use Rattle.lisp_base.specs.Spec.{Spec}
-use Rattle.lisp_base.specs.Tables.{Table, Object}
+use Rattle.lisp_base.specs.Sort.{number_of}
 use Rattle.lisp_forms.specs.Conses.{cons_at, elements}
-use Rattle.type_spec.specs.Parsing.{specifier}
 use Rattle.declarations.specs.Bodies.{is_string}
-use Rattle.declarations.specs.Declarations.{Typed, Declared, read_specifiers}
-use Rattle.lambda_lists.specs.LambdaLists.{Default, LambdaList, make_list, lambda_list}
-use Rattle.std_macros.specs.declared.macros.Macro.{Macro}
+use Rattle.declarations.specs.Declarations.{Declared, read_specifiers}
+use Rattle.lambda_lists.specs.LambdaLists.{Default, LambdaList, make_list}
 use Rattle.std_macros.specs.Expanding.{Expanded, gives as makes_form, bad, full, expanded_form, macro_of_form}
-use Rattle.core_form.specs.Primitives.{most_values}
-use Rattle.expansion.specs.declared.kind.ExpandKind.TheVariants.{BadForm, BadType, UnknownOperator, TooManySymbols}
+use Rattle.expansion.specs.declared.kind.ExpandKind.TheVariants.{BadForm, UnknownOperator, TooManySymbols}
 use Rattle.expansion.specs.declared.operator.Operator.{Operator}
 use Rattle.expansion.specs.declared.operator.Operator.TheVariants as op
-use Rattle.expansion.specs.declared.heads.Target.{Target}
-use Rattle.expansion.specs.declared.heads.Target.TheVariants.{Lexical, Global}
-use Rattle.expansion.specs.declared.heads.Leaf.TheVariants.{LocalVariable, GlobalVariable, LocalFunction, GlobalFunction, GoTo}
-use Rattle.expansion.specs.declared.heads.Binary.TheVariants.{Catching, Throwing, Unwinding, KeepingValues}
-use Rattle.expansion.specs.declared.heads.Many.TheVariants.{Sequence, GivingValues}
-use Rattle.expansion.specs.declared.heads.Calling.TheVariants.{Funcalling, Applying, CallingWithValues}
-use Rattle.expansion.specs.declared.heads.Reach.{Reach}
+use Rattle.expansion.specs.declared.heads.Target.TheVariants.{Global}
 use Rattle.expansion.specs.declared.heads.Reach.TheVariants.{ForBody, ForAll}
 use Rattle.expansion.specs.Operators.{operator_of, is_left_out, is_reserved}
-use Rattle.expansion.specs.Scopes.{Scope, variable_at, function_at, block_at, tag_at, types_set, types_used}
-use Rattle.expansion.specs.Steps.{World, Step, Answer, ◌>>=◌, ◌>>◌, pure, refuse, expect, only_if, given_or, look, change}
-use Rattle.expansion.specs.Sketches.{Sketch, form, leaf, one, two, choice, many, calling, assign, function, functions, recursive, block, tagbody, within, Function, sketches, forms, constant, progn, body, primitive, checked, Plan, instead, declared_around, makes, SettingLocal, SettingGlobal, SettingFunction, Testing, Checking, Returning}
-use Rattle.expansion.specs.Bindings.{types_of, contents_of, let_sketch, let_in_order, others, names, function_sketch, declared_or, with_stores, Contents}
+use Rattle.expansion.specs.Scopes.{Scope, variable_at, function_at}
+use Rattle.expansion.specs.Steps.{World, ◌>>=◌, ◌>>◌, refuse, expect, look, change}
+use Rattle.expansion.specs.Sketches.{Sketch, form, Function}
 use Rattle.expansion.specs.Calls.{global_call, calls_local, few}
-use Rattle.expansion.specs.Forms.{is_constant_symbol, symbol_in, unless_constant, variable_in, makes_node, reference, use_of, setting, proclaimed, set_target, set_variable, quote_plan, lambda_in, named_function, lambda_plan, function_plan, settings, setq_plan, if_plan, progn_plan, binding_with, binding_at, bindings_among, bindings_in, let_plan, let_in_order_plan, functions_plan, locally_forms, locally_plan, type_in, the_plan, block_plan, return_plan, return_from_plan, are_items, tagbody_plan, go_plan, catch_plan, throw_plan, unwind_plan, values_call_plan, keeping_plan, values_plan, funcall_plan, apply_plan, quoted_in, typep_plan, definable, definition, tail_of, defun_plan, with_proclaimed, value_among, global_set, and_name, unless_bound, defvar_plan, defparameter_plan, with_declaimed, declaim_plan, name_written, names_package, in_package_plan, operator_plan, operated, expansion_or, macro_plan, called, global_plan, is_macro, named_plan, only_required, paired, bindings_of_lambda, lambda_bindings, lambda_call, is_given, lambda_plan_of, symbol_plan, list_plan, plan_of}
-use Rattle.expansion_laws.specs.There.{Stores, stores, stores_of, SymbolIsThere, IsThere, TypeIsThere, AreSound, Grown, TypedIsThere, TargetIsThere}
-use Rattle.expansion_laws.proofs.ThereLists.{Each, no_more, one_more, Where, nothing_there, found_there, where_then, where_map, where_if, where_each, where_all, each_map, each_append, each_last, each_mapped}
-use Rattle.expansion_laws.proofs.ThereStores.{PairIsThere, ValuesAreThere, grown_same, grown_on, value_stays, values_stay, symbol_stays, symbol_there, symbol_of_there, type_stays, nil_there, cons_there, elements_there}
-use Rattle.expansion_laws.proofs.ThereTypes.{specifier_lawful}
-use Rattle.expansion_laws.proofs.ThereReading.{DeclaredAreThere, declared_stay, specifiers_read, WhereDeclared, NamedValueIsThere, LambdaListIsThere, lambda_list_there}
-use Rattle.expansion_laws.proofs.ThereBuilding.{Made}
+use Rattle.expansion.specs.Forms.{is_constant_symbol, variable_in, lambda_in, definable, definition, tail_of, defun_plan, with_proclaimed, value_among, global_set, and_name, unless_bound, defvar_plan, defparameter_plan, with_declaimed, declaim_plan, name_written, names_package, in_package_plan, operator_plan, operated, expansion_or, macro_plan, called, global_plan, is_macro, named_plan, only_required, paired, bindings_of_lambda, lambda_bindings, lambda_call, is_given, lambda_plan_of, symbol_plan, list_plan, plan_of}
+use Rattle.expansion_laws.specs.There.{Stores, stores, stores_of, SymbolIsThere, IsThere, AreSound, Grown}
+use Rattle.expansion_laws.proofs.ThereLists.{Each, no_more, one_more, Where, nothing_there, found_there, where_then, where_map, where_if, each_map, each_append, each_last}
+use Rattle.expansion_laws.proofs.ThereStores.{PairIsThere, ValuesAreThere, grown_same, grown_on, value_stays, values_stay, symbol_stays, symbol_there, symbol_of_there, nil_there, cons_there, elements_there}
+use Rattle.expansion_laws.proofs.ThereReading.{DeclaredAreThere, specifiers_read, WhereDeclared, NamedValueIsThere, LambdaListIsThere, lambda_list_there}
 use Rattle.expansion_laws.proofs.ThereKeys.{named_value_stays}
-use Rattle.expansion_laws.proofs.ThereMacros.{WhereExpanded, is_expanded, is_bad, is_full, expanded_there}
-use Rattle.expansion_laws.proofs.ThereSteps.{IsInOrder, AreInOrder, Later, later_same, later_on, Safe, stops, goes, Nothing, pure_safe, look_safe, refuse_safe, expect_safe, given_safe, only_safe, then_safe, next_safe}
-use Rattle.expansion_laws.proofs.ThereSketches.{SketchIsThere, a_form, a_leaf, a_unary, a_binary, a_choice, a_many, a_calling, an_assign, a_function, the_functions, a_recursive, a_block, a_tagbody, a_within, FunctionIsThere, sketch_stays, the_sketches, the_forms, a_constant, a_progn, a_body, a_primitive, a_checked, PlanIsThere, another_form, a_declared, a_sketch}
-use Rattle.expansion_laws.proofs.ThereScopes.{ScopeIsThere, scope_stays, variable_there, types_set_there, types_used_there}
-use Rattle.expansion_laws.proofs.ThereBindings.{found_safe, later_stores, types_of_there, others_there, let_there, let_in_order_there, ContentsAreThere, contents_stay, declared_safe, contents_safe, function_safe}
+use Rattle.expansion_laws.proofs.ThereMacros.{WhereExpanded, is_expanded, expanded_there}
+use Rattle.expansion_laws.proofs.ThereSteps.{IsInOrder, Safe, goes, Nothing, look_safe, refuse_safe, expect_safe, only_safe, then_safe, next_safe}
+use Rattle.expansion_laws.proofs.ThereSketches.{SketchIsThere, a_form, a_unary, a_choice, a_many, a_calling, a_recursive, FunctionIsThere, the_sketches, the_forms, a_constant, a_progn, a_body, a_primitive, PlanIsThere, another_form}
+use Rattle.expansion_laws.proofs.ThereScopes.{variable_there}
+use Rattle.expansion_laws.proofs.ThereBindings.{found_safe, later_stores, let_there, declared_safe, contents_safe, function_safe}
 use Rattle.expansion_laws.proofs.ThereCalls.{a_global_call, a_local_call, few_safe}
-use Rattle.expansion_laws.proofs.ThereForms.{Here, here_on, here_sound, makes_safe, elements_safe, symbol_in_there, variable_in_there, use_there, set_target_there, quote_safe, lambda_in_there, function_plan_safe, setq_safe, if_safe, progn_safe, let_safe, let_in_order_safe, functions_safe, locally_safe, the_safe, block_safe, return_from_safe, tagbody_safe, go_safe, catch_safe, throw_safe, unwind_safe, values_call_safe, keeping_safe, values_safe, funcall_safe, apply_safe, typep_safe}
+use Rattle.expansion_laws.proofs.ThereForms.{Here, here_on, makes_safe, elements_safe, symbol_in_there, variable_in_there, use_there, set_target_there, quote_safe, lambda_in_there, function_plan_safe, setq_safe, if_safe, progn_safe, let_safe, let_in_order_safe, functions_safe, locally_safe, the_safe, block_safe, return_from_safe, tagbody_safe, go_safe, catch_safe, throw_safe, unwind_safe, values_call_safe, keeping_safe, values_safe, funcall_safe, apply_safe, typep_safe}
 
 -- a world that is changed in its proclamations
 changed_safe : {w : World} (f : World → World) → IsInOrder (f w) → Grown (stores_of w) (stores_of (f w)) → Safe w Nothing (change f w)

@@ -1,22 +1,21 @@
 -- The forms that &KEY parameters stand for are there.
-use Rattle.std.specs.Prelude.{◌≡◌, refl, ℕ, zero, suc, ◌<◌, List, [], ◌∷◌, ◌++◌, map, slice_get, Option, Some, None}
-use Rattle.std.specs.Option.{option_map, option_and_then}
+use Rattle.std.specs.Prelude.{ℕ, ◌<◌, List, [], ◌∷◌, map, slice_get, Option, Some, None}
 use Rattle.std.proofs.Common.{arith}
 use Rattle.lisp_base.specs.declared.values.SymId.{SymId}
 use Rattle.lisp_base.specs.declared.values.Val.{Val}
-use Rattle.lisp_base.specs.declared.values.Val.TheVariants.{Int, Char, Sym, Ref}
+use Rattle.lisp_base.specs.declared.values.Val.TheVariants.{Sym}
 use Rattle.lisp_base.specs.declared.values.SymKind.TheVariants as kind
 use Rattle.lisp_base.specs.declared.base_symbols.TheConstants as at
 use Rattle.lisp_base.specs.Sort.{nil, number_of, symbol}
 use Rattle.lisp_base.specs.Tables.{Table, Object}
 use Rattle.lisp_forms.specs.Trees.{Tree, form, list}
-use Rattle.lambda_lists.specs.Trees.{word, call, quoted, found, test_tree, value_tree, supplied_tree, refusal_tree}
-use Rattle.lambda_lists.specs.LambdaLists.{Default, KeyForms, Keyed, make_keyed, name_of, keyword_of, after_first, keyed, made, bound, bound_supplied, bound_key, bound_keys, forms_from, forms_after, keyword_in, made_forms, with_table, key_forms}
+use Rattle.lambda_lists.specs.Trees.{word, quoted, found, test_tree, value_tree, supplied_tree, refusal_tree}
+use Rattle.lambda_lists.specs.LambdaLists.{Default, KeyForms, Keyed, name_of, keyed, made, bound, bound_supplied, bound_key, bound_keys, keyword_in, made_forms, key_forms}
 use Rattle.expansion_laws.specs.There.{Stores, stores, SymbolIsThere, IsThere, AreSound, Grown}
-use Rattle.expansion_laws.proofs.ThereLists.{Each, no_more, one_more, Where, nothing_there, found_there, where_then, where_map, where_each, each_map, each_last, each_mapped}
+use Rattle.expansion_laws.proofs.ThereLists.{Each, no_more, one_more, Where, found_there, where_then, where_map, where_each, each_map, each_last, each_mapped}
 use Rattle.expansion_laws.proofs.ThereStores.{grown_same, grown_on, value_stays, symbol_stays, nil_there, truth_there, symbol_there, base_there, base_symbol_there}
 use Rattle.expansion_laws.proofs.ThereReading.{DefaultIsThere, NamedValueIsThere}
-use Rattle.expansion_laws.proofs.ThereBuilding.{Made, FormsAreThere, form_there, list_there, forms_stay, all_trees_there, tree_built, interned_made, SymbolMade, Ready}
+use Rattle.expansion_laws.proofs.ThereBuilding.{Made, FormsAreThere, form_there, list_there, all_trees_there, tree_built, interned_made, Ready}
 
 pub default_stays : {s t : Stores} (g : Grown s t) (d : Default) → DefaultIsThere s d → DefaultIsThere t d
 default_stays g d h = record { variable = symbol_stays g d.variable h.variable; value = value_stays g d.value h.value; supplied = where_each h.supplied (λ x k. symbol_stays g x k) }
@@ -97,9 +96,6 @@ pub record KeyFormsAreThere (s : Stores) (k : KeyForms) : Type 0 where
   pub test : IsThere s k.test
   pub bindings : Each (NamedValueIsThere s) k.bindings
   pub refusal : IsThere s k.refusal
-
-pub key_forms_stay : {s t : Stores} (g : Grown s t) (k : KeyForms) → KeyFormsAreThere s k → KeyFormsAreThere t k
-key_forms_stay g k h = record { test = value_stays g k.test h.test; bindings = each_map (named_value_stays g) h.bindings; refusal = value_stays g k.refusal h.refusal }
 
 module _ (table : Table) where
   ready : (heap : List Object) → AreSound (stores table heap) → Ready table [] nil heap

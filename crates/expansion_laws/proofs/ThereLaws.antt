@@ -1,7 +1,7 @@
 -- The laws of what is there.
-use Rattle.std.specs.Prelude.{◌≡◌, refl, ℕ, zero, suc, ◌<◌, ◌≤◌, true, List, [], ◌∷◌, ◌++◌, length, map, slice_get, All, Contains, Option, Some, None}
+use Rattle.std.specs.Prelude.{◌≡◌, refl, ℕ, zero, suc, ◌<◌, List, [], ◌∷◌, length, map, slice_get, Contains, Option, Some, None}
 use Rattle.std.specs.Option.{option_map}
-use Rattle.std.proofs.Common.{ap, sym, subst, ◌∙◌, arith}
+use Rattle.std.proofs.Common.{ap, subst, ◌∙◌}
 use Rattle.std.proofs.lemmas.List.{length-map}
 use Rattle.lisp_base.specs.declared.values.ObjId.{ObjId}
 use Rattle.lisp_base.specs.declared.values.SymId.{SymId}
@@ -11,21 +11,17 @@ use Rattle.lisp_base.specs.Sort.{number_of, index_of}
 use Rattle.lisp_base.specs.Spec.{Spec}
 use Rattle.lisp_base.specs.Lawful.{IsLawful as IsLawfulType}
 use Rattle.lisp_base.specs.Tables.{Table, Object, Cons, Vector, Str, Fun, Cell}
-use Rattle.core_form.specs.Tree.{Core, Top}
 use Rattle.core_form.specs.Eval.{Program}
 use Rattle.core_form.specs.Lawful.{symbol_of, object_of, place_symbols, top_symbols, tree_symbols, types_in, quoted, tags_in, IsDatum, Reaches, values_in}
 use Rattle.core_form.specs.Lawful as lawful
-use Rattle.declarations.specs.Declarations.{Typed}
 use Rattle.expansion.specs.Scopes.{Scope}
-use Rattle.expansion.specs.Steps.{World, Answer, gives}
-use Rattle.expansion.specs.Expanding.{expand}
-use Rattle.expansion_laws.specs.There.{Stores, stores, stores_of, SymbolIsThere, TypeIsThere, PlaceIsThere, values_within, values_at, Reached, itself, within, ObjectIsPresent, IsPresent, an_integer, a_character, a_symbol, an_object, IsThere, Grown, IsSoundWorld, IsSoundScope, TreeIsThere, IsExpanded, DataAreThere, ValuesStay, TreesStay, Holds, ThereAreData, HasData, TopsHaveData}
-use Rattle.expansion_laws.proofs.ThereLists.{Each, all_each, each_all, each_append, all_map, all_contained}
-use Rattle.expansion_laws.proofs.ThereStores.{value_stays, symbol_stays, type_stays, type_kept, values_are_kept}
+use Rattle.expansion.specs.Steps.{World}
+use Rattle.expansion_laws.specs.There.{Stores, stores, stores_of, SymbolIsThere, TypeIsThere, values_within, values_at, Reached, itself, within, ObjectIsPresent, IsPresent, an_integer, a_character, a_symbol, an_object, IsThere, IsSoundWorld, IsSoundScope, DataAreThere, TreesStay, Holds, ThereAreData, TopsHaveData}
+use Rattle.expansion_laws.proofs.ThereLists.{all_each, each_all, each_append, all_map, all_contained}
+use Rattle.expansion_laws.proofs.ThereStores.{value_stays, symbol_stays, type_stays, type_kept}
 use Rattle.expansion_laws.proofs.ThereTrees.{Whole, tree_there, place_named}
-use Rattle.expansion_laws.proofs.ThereSteps.{IsInOrder, Later, Safe, safe_result}
+use Rattle.expansion_laws.proofs.ThereSteps.{IsInOrder, Safe, safe_result}
 use Rattle.expansion_laws.proofs.ThereScopes.{ScopeIsThere}
-use Rattle.expansion_laws.proofs.ThereForms.{Here}
 use Rattle.expansion_laws.proofs.ThereMaking.{expand_safe}
 
 -- ---- expansions

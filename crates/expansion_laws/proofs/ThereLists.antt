@@ -1,9 +1,9 @@
 -- Facts of all elements of a list, and of what is found where something is found.
-use Rattle.std.specs.Prelude.{◌≡◌, refl, ℕ, zero, suc, ◌+◌, ◌<◌, ◌≤◌, Bool, true, false, List, [], ◌∷◌, ◌++◌, length, map, flat_map, reverse, slice_get, slice_index_or, filter, take, drop, All, Contains, Option, Some, None, if◌then◌else◌}
+use Rattle.std.specs.Prelude.{◌≡◌, refl, ℕ, zero, suc, Bool, true, false, List, [], ◌∷◌, ◌++◌, map, flat_map, reverse, slice_index_or, filter, take, drop, All, Contains, Option, Some, None, if◌then◌else◌}
 use Rattle.std.specs.Option.{option_map, option_and_then}
-use Rattle.std.proofs.Common.{ap, sym, subst, ◌∙◌, arith}
+use Rattle.std.proofs.Common.{sym, subst}
 use Rattle.std.proofs.lemmas.List.{reverse-append}
-use Rattle.std.proofs.lemmas.List.Elements.{All-nil, All-cons, All-head, All-tail, All-append}
+use Rattle.std.proofs.lemmas.List.Elements.{All-nil, All-cons, All-head, All-tail}
 
 -- P holds of each element
 pub data Each {X : Type 0} (P : X → Type 0) : List X → Type 0 where
@@ -81,10 +81,6 @@ module _ {A : Type 0} where
   all_each [] h = no_more
   all_each {P = P} (x ∷ xs) h = one_more (All-head P x xs h) (all_each xs (All-tail P x xs h))
 
-  pub each_if : {P : A → Type 0} (b : Bool) (xs ys : List A) → Each P xs → Each P ys → Each P (if b then xs else ys)
-  each_if true xs ys h k = h
-  each_if false xs ys h k = k
-
   pub each_filter : {P : A → Type 0} {xs : List A} (f : A → Bool) → Each P xs → Each P (filter f xs)
   each_filter f no_more = no_more
   each_filter {P = P} f (one_more {x = x} {xs = xs} h hs) = kept (f x) (each_filter f hs)
@@ -92,15 +88,6 @@ module _ {A : Type 0} where
       kept : (b : Bool) → Each P (filter f xs) → Each P (if b then x ∷ filter f xs else filter f xs)
       kept true ks = one_more h ks
       kept false ks = ks
-
-  pub each_any : {P : A → Type 0} (k : (a : A) → P a) (xs : List A) → Each P xs
-  each_any k [] = no_more
-  each_any k (x ∷ xs) = one_more (k x) (each_any k xs)
-
-  pub each_slice : {P : A → Type 0} {xs : List A} (n : ℕ) → Each P xs → Where P (slice_get xs n)
-  each_slice n no_more = nothing_there
-  each_slice zero (one_more h hs) = found_there h
-  each_slice (suc n) (one_more h hs) = each_slice n hs
 
   pub each_index : {P : A → Type 0} {xs : List A} (n : ℕ) (d : A) → P d → Each P xs → P (slice_index_or xs n d)
   each_index n d p no_more = p

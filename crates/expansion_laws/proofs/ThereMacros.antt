@@ -1,32 +1,31 @@
 -- The form that a macro form gives is there: each row of the table of macros puts words, arguments and their parts together.
-use Rattle.std.specs.Prelude.{◌≡◌, refl, ℕ, zero, suc, ◌+◌, ◌<◌, ◌||◌, pos, Bool, true, false, not, List, [], ◌∷◌, ◌++◌, length, map, reverse, find, Option, Some, None, if◌then◌else◌}
+use Rattle.std.specs.Prelude.{refl, ℕ, zero, suc, ◌+◌, ◌<◌, Bool, true, false, not, List, [], ◌∷◌, ◌++◌, length, map, reverse, find, Option, Some, None, if◌then◌else◌}
 use Rattle.std.specs.List.{list_all, flat_map}
 use Rattle.std.specs.Option.{option_map, option_and_then, is_some}
 use Rattle.std.proofs.Common.{arith}
 use Rattle.lisp_base.specs.declared.values.Val.{Val}
-use Rattle.lisp_base.specs.declared.values.Val.TheVariants.{Int, Char, Sym, Ref}
+use Rattle.lisp_base.specs.declared.values.Val.TheVariants.{Sym}
 use Rattle.lisp_base.specs.Sort.{nil, symbol}
 use Rattle.lisp_base.specs.Membership.{is_symbol}
 use Rattle.lisp_base.specs.Tables.{Table, Object}
-use Rattle.lisp_forms.specs.Conses.{cons_at, elements, is_nil, place_at}
-use Rattle.lisp_forms.specs.Trees.{Tree, form, fresh, inner, listed, trees, list, list_before}
-use Rattle.lisp_forms.specs.Building.{built}
+use Rattle.lisp_forms.specs.Conses.{cons_at, elements, is_nil}
+use Rattle.lisp_forms.specs.Trees.{Tree, form, fresh, inner, list, list_before}
 use Rattle.std_macros.specs.declared.macros.Macro.{Macro}
 use Rattle.std_macros.specs.declared.macros.Macro.TheVariants as m
 use Rattle.std_macros.specs.Words.{word_number}
-use Rattle.std_macros.specs.Rules.{Expansion, expansion, plain, word, nil_form, forms, call, one, two, three, binding, let_form, kept, nil_block, fresh_from, fresh_bindings, fresh_sets}
-use Rattle.std_macros.specs.Syntax.{is_word, each, pairs, all_symbols, only_of, marked, is_string, is_declaration, undocumented, Parts, parts, with_declaration, parted, body_parts}
+use Rattle.std_macros.specs.Rules.{Expansion, expansion, plain, forms, binding, let_form, kept, nil_block, fresh_from, fresh_bindings, fresh_sets}
+use Rattle.std_macros.specs.Syntax.{is_word, each, pairs, all_symbols, only_of, is_string, is_declaration, undocumented, Parts, parts, with_declaration, parted, body_parts}
 use Rattle.std_macros.specs.Conditionals.{and_row, or_row, clause_row, cond_row, when_row, unless_row}
-use Rattle.std_macros.specs.Cases.{Clause, clause, keys_by, tests_at, clause_with, clause_at, is_default, test_type, clause_form, choice, before_default, open_choice, case_row, tests_of, gathered, all_tests, exhaustive_row}
-use Rattle.std_macros.specs.Loops.{go_to, loop_row, step, step_from, step_at, step_binding, next_value, step_sets, binder, setter, end_test, do_round, do_form, do_with, do_row, repeat, repeat_from, number, count_round, dotimes_bindings, dotimes_form, dotimes_row, the_list, list_test, list_body, list_round, dolist_form, dolist_row}
-use Rattle.std_macros.specs.Bindings.{return_row, prog_form, prog_row, kept_form, prog1_row, prog2_row, psetq_form, psetq_with, psetq_row}
-use Rattle.std_macros.specs.Places.{Target, variable, access, writers, writer_of, target_from, target_at, read_form, write_form, store_form, setf_target, setf_forms, setf_each, setf_row, change_target, change_row, push_target, push_row, popped_form, pop_target, pop_row}
-use Rattle.std_macros.specs.ManyValues.{receive_form, bind_values, bind_values_row, list_values_row, set_form, set_values, set_values_row, nth_value_row, lambda_row}
+use Rattle.std_macros.specs.Cases.{Clause, clause, keys_by, is_default, before_default, tests_of}
+use Rattle.std_macros.specs.Loops.{go_to, loop_row, step, step_from, step_at, step_binding, next_value, step_sets, end_test, repeat, repeat_from, number, dotimes_form, dotimes_row, the_list, dolist_form, dolist_row}
+use Rattle.std_macros.specs.Bindings.{return_row, kept_form, prog1_row, prog2_row, psetq_with, psetq_row}
+use Rattle.std_macros.specs.Places.{Target, variable, access, writers, writer_of, target_from, target_at, read_form, write_form, store_form, setf_target, setf_forms, setf_each, setf_row, push_target, push_row, popped_form, pop_target, pop_row}
+use Rattle.std_macros.specs.ManyValues.{receive_form, bind_values_row, list_values_row, set_form, set_values, set_values_row, nth_value_row, lambda_row}
 use Rattle.std_macros.specs.Quasiquotes.{under, joined, quasi_parts, quasi_form, quasiquote_row}
-use Rattle.std_macros.specs.Expanding.{row, rest_by, rest_of, arguments_row, fresh_symbols, built_around, Expanded, gives, bad, full, with_heap, with_symbols, expanded_by, arguments_of, expanded, macro_of_form, expanded_as, expanded_form}
-use Rattle.expansion_laws.specs.There.{Stores, stores, SymbolIsThere, IsThere, AreSound, Grown}
-use Rattle.expansion_laws.proofs.ThereLists.{Each, no_more, one_more, Where, nothing_there, found_there, where_then, where_map, where_if, where_passed, each_map, each_append, each_head, each_tail, each_mapped, each_flat, each_reversed}
-use Rattle.expansion_laws.proofs.ThereStores.{PairIsThere, ValuesAreThere, grown_on, value_stays, values_stay, IsBase, based, symbol_there, nil_there, number_there, cons_there, elements_there}
+use Rattle.std_macros.specs.Expanding.{row, rest_by, rest_of, arguments_row, Expanded, gives, bad, full, with_symbols, expanded_by, arguments_of, expanded, macro_of_form, expanded_as, expanded_form}
+use Rattle.expansion_laws.specs.There.{Stores, stores, IsThere, AreSound}
+use Rattle.expansion_laws.proofs.ThereLists.{Each, no_more, one_more, Where, nothing_there, found_there, where_then, where_map, where_if, each_map, each_append, each_mapped, each_flat, each_reversed}
+use Rattle.expansion_laws.proofs.ThereStores.{PairIsThere, ValuesAreThere, grown_on, values_stay, IsBase, based, symbol_there, nil_there, number_there, cons_there, elements_there}
 use Rattle.expansion_laws.proofs.ThereBuilding.{Made, FormsAreThere, form_there, fresh_there, inner_there, list_there, forms_stay, all_trees_there, tree_built, around_built, fresh_symbols_made, FreshMade}
 
 abbrev pub TreesAreThere : Stores → List Tree → Type 0

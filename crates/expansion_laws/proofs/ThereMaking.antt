@@ -1,20 +1,15 @@
 -- The tree that a form expands to is there.
-use Rattle.std.specs.Prelude.{◌≡◌, refl, ℕ, zero, suc, ◌+◌, ◌||◌, Bool, true, false, if◌then◌else◌, List, [], ◌∷◌, ◌++◌, map, length, Option, Some, None}
-use Rattle.std.specs.Option.{option_map, option_and_then}
+use Rattle.std.specs.Prelude.{◌≡◌, refl, ℕ, zero, suc, ◌+◌, Bool, true, false, List, [], ◌∷◌, length, Option, Some, None}
+use Rattle.std.specs.Option.{option_and_then}
 use Rattle.lisp_base.specs.declared.values.Place.{Place}
 use Rattle.lisp_base.specs.declared.values.SymId.{SymId}
 use Rattle.lisp_base.specs.declared.values.Val.{Val}
 use Rattle.lisp_base.specs.declared.values.Val.TheVariants.{Int, Char, Sym, Ref}
-use Rattle.lisp_base.specs.Spec.{Spec}
-use Rattle.lisp_base.specs.Tables.{Object}
-use Rattle.lisp_forms.specs.Conses.{cons_at, elements}
-use Rattle.core_form.specs.declared.tree.Variable.{Variable}
-use Rattle.core_form.specs.declared.tree.Variable.TheVariants as variable
+use Rattle.lisp_forms.specs.Conses.{elements}
 use Rattle.core_form.specs.Tree as tree
 use Rattle.core_form.specs.Tree.{Core, Cores, no_core, core, Bindings, no_binding, binding, Optionals, no_optional, optional, Lambda, lambda, Definitions, no_definition, define, Items, no_item, tag, step, Parameter, place_of}
-use Rattle.core_form.specs.Facts.{FunctionText, gather, gather_all, gather_bindings, gather_optionals, gather_lambda, gather_definitions, gather_items, let_parameters, binding_parameters, optional_parameters, if_given, parameters_of, TagText, tag_texts, item_tags, tagbody_number}
+use Rattle.core_form.specs.Facts.{gather, gather_all, gather_bindings, gather_optionals, gather_lambda, gather_definitions, gather_items, let_parameters, binding_parameters, optional_parameters, if_given, tag_texts, item_tags, tagbody_number}
 use Rattle.core_form.specs.Lawful.{own_symbols, definition_symbols, tag_symbols, value_symbols, types_here, quoted_here, variable_symbols, is_tag as is_lawful_tag}
-use Rattle.declarations.specs.Declarations.{Declared}
 use Rattle.expansion.specs.declared.kind.ExpandKind.TheVariants.{TooNested}
 use Rattle.expansion.specs.declared.heads.Leaf.{Leaf}
 use Rattle.expansion.specs.declared.heads.Leaf.TheVariants.{Constant, LocalVariable, GlobalVariable, LocalFunction, GlobalFunction, GoTo}
@@ -27,21 +22,19 @@ use Rattle.expansion.specs.declared.heads.Calling.TheVariants.{Funcalling, Apply
 use Rattle.expansion.specs.declared.heads.Reach.{Reach}
 use Rattle.expansion.specs.declared.heads.Reach.TheVariants.{ForBody, ForAll}
 use Rattle.expansion.specs.Scopes.{Scope, at_form, with_function, with_block, declared_in}
-use Rattle.expansion.specs.Steps.{World, Step, ◌>>=◌, ◌>>◌, pure, refuse, expect, look, begin, inside, most_chain, take_numbers, take_function}
-use Rattle.expansion.specs.Sketches.{Unary, SettingLocal, SettingGlobal, SettingFunction, Testing, Checking, Returning, leaf_node, unary_node, unary_count, binary_node, many_node, calling_node, Binder, Initial, Optional', Sketch, form, leaf, one, two, choice, many, calling, bind, assign, function, functions, recursive, block, tagbody, within, Sketches, no_sketch, sketch, Function, function_of, checked, Plan, instead, declared_around, makes}
-use Rattle.expansion.specs.Bindings.{types_of, function_sketch}
-use Rattle.expansion.specs.Forms.{plan_of, definable, tail_of, is_tag, set_variable}
-use Rattle.expansion.specs.Expanding.{is_special, variable_for, numbers_for, parameter_for, parameter, target_of, Bound, with_bound, with_all, with_some, bound, bound_each, bound_some, parameters, parameter_some, Inner, each, bound_initials, values_bound, bounds_of, binding_node, BoundOptional, bound_optional, bound_optionals, defaults, function_size, function_tree, with_definitions, defined, name_in, definition_at, definitions, around_definitions, functions_tree, functions_node, recursive_node, block_node, tags_in, with_tags, items, tagbody_node, go_on, followed, planned, expand, make}
-use Rattle.expansion_laws.specs.There.{Stores, stores, stores_of, SymbolIsThere, IsThere, TypeIsThere, PlaceIsThere, AreSound, Grown, IsPresent, an_integer, itself}
-use Rattle.expansion_laws.proofs.ThereLists.{Each, no_more, one_more, Where, nothing_there, found_there, where_then, where_map, where_each, each_map, each_append, each_head, each_tail, each_mapped}
-use Rattle.expansion_laws.proofs.ThereStores.{ValuesAreThere, grown_on, value_stays, values_stay, symbol_stays, types_stay, place_stays, symbol_of_there, elements_there}
-use Rattle.expansion_laws.proofs.ThereReading.{NamedValueIsThere, declared_stay}
-use Rattle.expansion_laws.proofs.ThereTrees.{ParameterIsThere, IsTagText, NodeIsThere, TextIsThere, Part, a_node, a_text, PartIsThere, node_part, text_part, PartsAreThere, Whole, parameter_stays, parameters_stay, parts_stay, type_named, place_named}
-use Rattle.expansion_laws.proofs.ThereSteps.{IsInOrder, Later, later_same, later_on, Safe, stops, goes, Nothing, Number, pure_safe, look_safe, refuse_safe, expect_safe, then_safe, next_safe, begin_safe, numbers_safe, function_number_safe}
+use Rattle.expansion.specs.Steps.{World, Step, ◌>>=◌, ◌>>◌, pure, begin, inside, most_chain}
+use Rattle.expansion.specs.Sketches.{Unary, SettingLocal, SettingGlobal, SettingFunction, Testing, Checking, Returning, leaf_node, unary_node, unary_count, binary_node, many_node, calling_node, Binder, Initial, Optional', Sketch, form, leaf, one, two, choice, many, calling, bind, assign, function, functions, recursive, block, tagbody, within, Sketches, no_sketch, sketch, Function, function_of, Plan, instead, declared_around, makes}
+use Rattle.expansion.specs.Forms.{tail_of, set_variable}
+use Rattle.expansion.specs.Expanding.{is_special, variable_for, numbers_for, parameter_for, parameter, Bound, with_bound, with_all, with_some, bound, bound_each, bound_some, parameters, parameter_some, Inner, each, bound_initials, values_bound, bounds_of, binding_node, BoundOptional, bound_optionals, defaults, function_size, function_tree, with_definitions, defined, name_in, definition_at, definitions, around_definitions, functions_tree, functions_node, recursive_node, block_node, tags_in, with_tags, items, tagbody_node, go_on, followed, planned, expand, make}
+use Rattle.expansion_laws.specs.There.{Stores, stores_of, SymbolIsThere, IsThere, PlaceIsThere, Grown, IsPresent, an_integer, itself}
+use Rattle.expansion_laws.proofs.ThereLists.{Each, no_more, one_more, Where, nothing_there, found_there, where_then, where_each, each_map, each_append, each_mapped}
+use Rattle.expansion_laws.proofs.ThereStores.{ValuesAreThere, grown_on, value_stays, values_stay, symbol_stays, place_stays, symbol_of_there, elements_there}
+use Rattle.expansion_laws.proofs.ThereTrees.{ParameterIsThere, IsTagText, NodeIsThere, node_part, text_part, PartsAreThere, Whole, parameter_stays, parameters_stay, parts_stay, type_named, place_named}
+use Rattle.expansion_laws.proofs.ThereSteps.{IsInOrder, Safe, pure_safe, look_safe, refuse_safe, then_safe, next_safe, begin_safe, numbers_safe, function_number_safe}
 use Rattle.expansion_laws.proofs.ThereSketches.{LeafIsThere, UnaryIsThere, ManyIsThere, leaf_stays, unary_stays, many_stays, BinderIsThere, binder_stays, binders_stay, binder_may_stay, InitialIsThere, initial_stays, OptionalIsThere, optional_stays, SketchIsThere, a_form, a_leaf, a_unary, a_binary, a_choice, a_many, a_calling, a_bind, an_assign, a_function, the_functions, a_recursive, a_block, a_tagbody, a_within, SketchesAreThere, no_part, a_part, sketches_stay, FunctionIsThere, of_parts, sketch_stays, function_stays, a_checked, PlanIsThere, another_form, a_declared, a_sketch}
 use Rattle.expansion_laws.proofs.ThereScopes.{ScopeIsThere, scope_stays, at_form_there, with_function_there, with_block_there, declared_in_there, BoundIsThere, with_bound_there, with_all_there, with_some_there, with_definitions_there, with_tags_there}
 use Rattle.expansion_laws.proofs.ThereBindings.{found_safe, types_of_there, function_safe}
-use Rattle.expansion_laws.proofs.ThereForms.{Here, here_on, elements_safe, set_variable_there}
+use Rattle.expansion_laws.proofs.ThereForms.{Here, here_on, set_variable_there}
 use Rattle.expansion_laws.proofs.ThereDefinitions.{definable_there, tail_there, plan_safe}
 
 -- ---- nodes

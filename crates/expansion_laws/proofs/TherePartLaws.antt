@@ -1,7 +1,7 @@
 -- The laws of what is read and made of forms that are there, and of their scopes.
-use Rattle.std.specs.Prelude.{◌≡◌, refl, ℕ, ◌≤◌, List, [], ◌∷◌, length, All, Contains, slice_get, Option, Some, None}
+use Rattle.std.specs.Prelude.{◌≡◌, refl, List, Contains, slice_get, Option, Some, None}
 use Rattle.std.specs.Option.{option_map}
-use Rattle.std.proofs.Common.{ap, sym, subst, ◌∙◌, arith}
+use Rattle.std.proofs.Common.{ap, sym, subst, ◌∙◌}
 use Rattle.lisp_base.specs.declared.values.ObjId.{ObjId}
 use Rattle.lisp_base.specs.declared.values.Val.{Val}
 use Rattle.lisp_base.specs.declared.values.Val.TheVariants.{Int, Char, Sym, Ref}
@@ -12,18 +12,17 @@ use Rattle.core_form.specs.Eval.{Program}
 use Rattle.core_form.specs.Lawful.{object_of, IsDatum, Reaches}
 use Rattle.core_form.specs.Lawful as lawful
 use Rattle.declarations.specs.Declarations.{Declared, Reading, declared, bad_form, bad_type, bad_policy}
-use Rattle.std_macros.specs.Expanding.{Expanded, gives as makes_form}
+use Rattle.std_macros.specs.Expanding.{gives as makes_form}
 use Rattle.expansion.specs.Scopes.{Scope}
-use Rattle.expansion.specs.Steps.{World, Answer, gives, refused, Step, and_then, ◌>>=◌, pure, refuse, look}
+use Rattle.expansion.specs.Steps.{World, Answer, gives, refused, and_then, ◌>>=◌, pure, refuse, look}
 use Rattle.expansion.specs.Bindings.{Contents, contents, declared_or, read_body, contents_of}
-use Rattle.expansion_laws.specs.There.{Stores, stores, stores_of, SymbolIsThere, PlaceMayBe, values_at, Reached, itself, within, IsPresent, an_integer, a_character, a_symbol, an_object, IsThere, IsSoundScope, Holds}
+use Rattle.expansion_laws.specs.There.{Stores, stores, stores_of, PlaceMayBe, Reached, itself, within, IsPresent, an_integer, a_character, a_symbol, an_object, IsSoundScope, Holds}
 use Rattle.expansion_laws.specs.ThereParts.{PairsAreThere, ElementsAreThere, DeclaredIsThere, BodiesAreThere, TypesAreLawful, IsMadeForm, MacrosAreThere, FormsHaveScopes, DeclarationsHaveScopes, ScopesStay, DeclarationsStay, DataAreValues}
 use Rattle.expansion_laws.proofs.ThereLists.{where_is, all_each, each_all}
 use Rattle.expansion_laws.proofs.ThereStores.{cons_there, elements_there}
 use Rattle.expansion_laws.proofs.ThereTypes.{specifier_lawful}
 use Rattle.expansion_laws.proofs.ThereReading.{DeclaredAreThere, declared_stay}
 use Rattle.expansion_laws.proofs.ThereMacros.{WhereExpanded, is_expanded, expanded_there}
-use Rattle.expansion_laws.proofs.ThereBuilding.{Made}
 use Rattle.expansion_laws.proofs.ThereSteps.{Safe, safe_result}
 use Rattle.expansion_laws.proofs.ThereScopes.{ScopeIsThere, scope_stays, at_form_there, declared_in_there}
 use Rattle.expansion_laws.proofs.ThereBindings.{ContentsAreThere, contents_safe}

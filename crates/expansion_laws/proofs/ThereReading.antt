@@ -1,26 +1,24 @@
 -- What is read of forms that are there is there: bodies, declarations and lambda lists.
-use Rattle.std.specs.Prelude.{◌≡◌, refl, ℕ, zero, suc, ◌+◌, Bool, true, false, ◌||◌, List, [], ◌∷◌, ◌++◌, take, drop, Option, Some, None, if◌then◌else◌, slice_get}
-use Rattle.std.specs.List.{list_all, position}
-use Rattle.std.specs.Option.{option_map, option_and_then}
-use Rattle.std.proofs.Common.{arith}
+use Rattle.std.specs.Prelude.{ℕ, ◌+◌, Bool, true, false, ◌||◌, List, [], ◌∷◌, Option, Some, None, if◌then◌else◌}
+use Rattle.std.specs.List.{position}
+use Rattle.std.specs.Option.{option_and_then}
 use Rattle.lisp_base.specs.declared.values.Val.{Val}
 use Rattle.lisp_base.specs.declared.values.Val.TheVariants.{Int, Char, Sym, Ref}
 use Rattle.lisp_base.specs.declared.values.SymId.{SymId}
 use Rattle.lisp_base.specs.declared.base_symbols.TheConstants as at
-use Rattle.lisp_base.specs.Sort.{nil, number_of}
+use Rattle.lisp_base.specs.Sort.{number_of}
 use Rattle.lisp_base.specs.Spec.{Spec}
 use Rattle.lisp_base.specs.Membership.{is_symbol, is_symbol_number}
-use Rattle.lisp_base.specs.Tables.{Table, Object}
 use Rattle.lisp_forms.specs.Conses.{cons_at, elements}
 use Rattle.type_spec.specs.Parsing.{specifier}
 use Rattle.declarations.specs.declared.policy.Policy.{Policy}
 use Rattle.declarations.specs.Bodies as bodies
 use Rattle.declarations.specs.Bodies.{Body, body_of}
 use Rattle.declarations.specs.Policies.{is_same, setting_of, is_refused}
-use Rattle.declarations.specs.Declarations.{Typed, Declared, make_declared, Reading, declared, bad_form, bad_type, bad_policy, and_then, read_each, add_type, add_types, add_special, with_setting, set_quality, subject_named, subject_of, typing, by_subject, read_parts, if_list, read_specifier, read_list, read_rest, read_declaration, nothing, tested, read_declarations, read_specifiers}
-use Rattle.lambda_lists.specs.LambdaLists.{Default, LambdaList, can_be_bound, variable, default_with, listed_default, default_at, auxiliary_with, auxiliary_at, each, each_in, keys_in, rest_in, cut_at, cut, Sections, sections, make_list, list_of_sections, lambda_list}
-use Rattle.expansion_laws.specs.There.{Stores, stores, SymbolIsThere, IsThere, TypeIsThere, AreSound, Grown, TypedIsThere}
-use Rattle.expansion_laws.proofs.ThereLists.{Each, no_more, one_more, Where, nothing_there, found_there, where_then, where_map, where_if, each_map, each_append, each_last, each_take, each_drop}
+use Rattle.declarations.specs.Declarations.{Declared, Reading, declared, bad_form, bad_type, bad_policy, and_then, read_each, add_type, add_types, add_special, with_setting, set_quality, subject_named, typing, by_subject, read_parts, if_list, read_specifier, read_list, read_rest, read_declaration, nothing, tested, read_declarations, read_specifiers}
+use Rattle.lambda_lists.specs.LambdaLists.{Default, LambdaList, can_be_bound, variable, default_with, auxiliary_with, auxiliary_at, each, each_in, keys_in, rest_in, cut_at, cut, Sections, sections, list_of_sections, lambda_list}
+use Rattle.expansion_laws.specs.There.{Stores, SymbolIsThere, IsThere, TypeIsThere, AreSound, Grown, TypedIsThere}
+use Rattle.expansion_laws.proofs.ThereLists.{Each, no_more, one_more, Where, nothing_there, found_there, where_then, where_map, where_if, each_map, each_last, each_take, each_drop}
 use Rattle.expansion_laws.proofs.ThereStores.{PairIsThere, ValuesAreThere, typed_stays, symbol_stays, symbol_of_there, nil_there, cons_there, elements_there}
 use Rattle.expansion_laws.proofs.ThereTypes.{specifier_lawful}
 
@@ -159,14 +157,6 @@ module _ (s : Stores) where
   body_there vs h = parted_there _ (undocumented_there vs h)
 
 -- ---- lambda lists
-
-pub data IfThere {A : Type 0} (P : A → Type 0) : Option A → Type 0 where
-  none_given : IfThere P None
-  one_given : {a : A} → P a → IfThere P (Some a)
-
-pub if_there_map : {A : Type 0} {P Q : A → Type 0} {m : Option A} → ((a : A) → P a → Q a) → IfThere P m → IfThere Q m
-if_there_map k none_given = none_given
-if_there_map k (one_given h) = one_given (k _ h)
 
 pub record DefaultIsThere (s : Stores) (d : Default) : Type 0 where
   pub variable : SymbolIsThere s d.variable

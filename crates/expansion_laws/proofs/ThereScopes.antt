@@ -1,25 +1,22 @@
 -- Scopes of what is there: what names mean in them, the types that are declared, and the scopes that grow from them.
-use Rattle.std.specs.Prelude.{◌≡◌, refl, ℕ, suc, Bool, true, false, not, List, [], ◌∷◌, ◌++◌, map, filter, fold, Option, Some, None, if◌then◌else◌}
+use Rattle.std.specs.Prelude.{ℕ, suc, Bool, true, false, List, [], ◌∷◌, ◌++◌, fold, Option, Some, None, if◌then◌else◌}
 use Rattle.lisp_base.specs.declared.values.Place.{Place}
 use Rattle.lisp_base.specs.declared.values.SymId.{SymId}
 use Rattle.lisp_base.specs.declared.values.Val.{Val}
 use Rattle.lisp_base.specs.Spec.{Spec}
 use Rattle.lisp_base.specs.Tables.{Object}
 use Rattle.lisp_forms.specs.Conses.{place_at}
-use Rattle.declarations.specs.declared.policy.Policy.{Policy}
 use Rattle.declarations.specs.Declarations.{Typed, Declared}
-use Rattle.core_form.specs.Tree.{Parameter}
 use Rattle.core_form.specs.Lawful.{variable_symbols}
 use Rattle.core_form.specs.declared.tree.Variable.{Variable}
 use Rattle.core_form.specs.declared.tree.Variable.TheVariants as variable
 use Rattle.expansion.specs.declared.heads.Target.{Target}
-use Rattle.expansion.specs.declared.heads.Target.TheVariants.{Lexical, Global}
-use Rattle.expansion.specs.Scopes.{value_or, same_target, Check, of_binding, of_uses, rebound, Scope, own_place, at_form, later, last_fit, second, named, variable_at, ends, and_set, and_used, types_set, types_used, with_variable, with_function, with_block, with_tag, with_special, with_type, with_policy, declared_in}
-use Rattle.expansion.specs.Sketches.{Binder}
+use Rattle.expansion.specs.declared.heads.Target.TheVariants.{Global}
+use Rattle.expansion.specs.Scopes.{value_or, same_target, Check, of_binding, of_uses, rebound, Scope, at_form, later, second, named, variable_at, ends, and_set, and_used, types_set, types_used, with_variable, with_function, with_block, with_tag, with_special, with_type, declared_in}
 use Rattle.expansion.specs.Expanding.{Bound, target_of, checks_for, new_checks, with_bound, with_all, with_some, with_named, with_definitions, with_tags, definition_name}
 use Rattle.expansion.specs.Forms.{is_tag}
-use Rattle.expansion_laws.specs.There.{Stores, stores, SymbolIsThere, IsThere, TypeIsThere, PlaceIsThere, PlaceMayBe, AreSound, Grown, TypedIsThere, TargetIsThere, CheckIsThere, NameIsThere}
-use Rattle.expansion_laws.proofs.ThereLists.{Each, no_more, one_more, Where, nothing_there, found_there, each_map, each_append, each_last, each_head, each_mapped}
+use Rattle.expansion_laws.specs.There.{Stores, SymbolIsThere, IsThere, TypeIsThere, PlaceIsThere, PlaceMayBe, Grown, TypedIsThere, TargetIsThere, CheckIsThere, NameIsThere}
+use Rattle.expansion_laws.proofs.ThereLists.{Each, no_more, one_more, Where, nothing_there, found_there, each_map, each_append, each_last, each_mapped}
 use Rattle.expansion_laws.proofs.ThereStores.{place_of_there, place_stays, name_stays, check_stays}
 use Rattle.expansion_laws.proofs.ThereReading.{DeclaredAreThere}
 use Rattle.expansion_laws.proofs.ThereSketches.{BinderIsThere}

@@ -1,13 +1,10 @@
 -- Sketches of what is there: their forms, symbols and types are there, and stay there.
-use Rattle.std.specs.Prelude.{◌≡◌, refl, ℕ, zero, suc, Bool, true, false, not, List, [], ◌∷◌, ◌++◌, map, filter, fold, Option, Some, None, if◌then◌else◌}
-use Rattle.std.specs.Option.{option_map, option_and_then}
+use Rattle.std.specs.Prelude.{List, [], ◌∷◌, Option}
 use Rattle.lisp_base.specs.declared.values.SymId.{SymId}
 use Rattle.lisp_base.specs.declared.values.Val.{Val}
 use Rattle.lisp_base.specs.declared.primitives.Primitive.{Primitive as Operation}
-use Rattle.lisp_base.specs.Sort.{nil}
 use Rattle.lisp_base.specs.Spec.{Spec}
-use Rattle.declarations.specs.declared.policy.Policy.{Policy}
-use Rattle.declarations.specs.Declarations.{Typed, Declared}
+use Rattle.declarations.specs.Declarations.{Declared}
 use Rattle.expansion.specs.declared.heads.Leaf.{Leaf}
 use Rattle.expansion.specs.declared.heads.Leaf.TheVariants.{Constant, LocalVariable, GlobalVariable, LocalFunction, GlobalFunction, GoTo}
 use Rattle.expansion.specs.declared.heads.Binary.{Binary}
@@ -16,8 +13,8 @@ use Rattle.expansion.specs.declared.heads.Many.TheVariants.{Sequence, CallingLoc
 use Rattle.expansion.specs.declared.heads.Calling.{Calling}
 use Rattle.expansion.specs.declared.heads.Reach.{Reach}
 use Rattle.expansion.specs.Sketches.{Unary, SettingLocal, SettingGlobal, SettingFunction, Testing, Checking, Returning, Binder, Initial, Optional', Sketch, form, leaf, one, two, choice, many, calling, bind, assign, function, functions, recursive, block, tagbody, within, Sketches, no_sketch, sketch, Function, function_of, sketches, forms, constant, progn, body, primitive, checked, Plan, instead, declared_around, makes}
-use Rattle.expansion_laws.specs.There.{Stores, stores, SymbolIsThere, IsThere, TypeIsThere, AreSound, Grown}
-use Rattle.expansion_laws.proofs.ThereLists.{Each, no_more, one_more, Where, nothing_there, found_there, where_each, each_map, each_append, each_mapped}
+use Rattle.expansion_laws.specs.There.{Stores, SymbolIsThere, IsThere, TypeIsThere, AreSound, Grown}
+use Rattle.expansion_laws.proofs.ThereLists.{Each, no_more, one_more, Where, where_each, each_map, each_mapped}
 use Rattle.expansion_laws.proofs.ThereStores.{ValuesAreThere, value_stays, values_stay, symbol_stays, type_stays, types_stay, nil_there}
 use Rattle.expansion_laws.proofs.ThereReading.{DeclaredAreThere, declared_stay}
 

@@ -1,14 +1,14 @@
 -- Steps from a sound world: what is so of their results, and the world after them is sound and holds what it held.
-use Rattle.std.specs.Prelude.{◌≡◌, refl, ℕ, zero, suc, ◌+◌, nat_le, Bool, true, false, List, Option, Some, None}
+use Rattle.std.specs.Prelude.{ℕ, zero, suc, Bool, true, false, List, Option, Some, None}
 use Rattle.lisp_base.specs.declared.values.Place.{Place}
 use Rattle.lisp_base.specs.declared.values.SymId.{SymId}
 use Rattle.declarations.specs.Declarations.{Typed}
 use Rattle.expansion.specs.declared.kind.ExpandKind.{ExpandKind}
 use Rattle.expansion.specs.Scopes.{Scope}
-use Rattle.expansion.specs.Steps.{World, Answer, gives, refused, Step, and_then, ◌>>=◌, ◌>>◌, pure, refuse, given_or, expect, only_if, look, change, most_nodes, begun, begin, with_nodes, take_numbers, take_function}
-use Rattle.expansion_laws.specs.There.{Stores, stores, stores_of, SymbolIsThere, AreSound, Grown, TypedIsThere}
-use Rattle.expansion_laws.proofs.ThereLists.{Each, Where, nothing_there, found_there, each_map}
-use Rattle.expansion_laws.proofs.ThereStores.{grown_same, grown_on, typed_stays}
+use Rattle.expansion.specs.Steps.{World, Answer, gives, refused, Step, and_then, ◌>>=◌, ◌>>◌, pure, refuse, given_or, expect, only_if, look, begun, begin, take_numbers, take_function}
+use Rattle.expansion_laws.specs.There.{Stores, stores_of, SymbolIsThere, AreSound, Grown, TypedIsThere}
+use Rattle.expansion_laws.proofs.ThereLists.{Each, Where, found_there}
+use Rattle.expansion_laws.proofs.ThereStores.{grown_same, grown_on}
 
 -- sound stores, and what has been proclaimed in the file is there
 pub record AreInOrder (s : Stores) (proclaimed : List SymId) (declaimed : List Typed) : Type 0 where

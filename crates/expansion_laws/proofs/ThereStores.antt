@@ -1,7 +1,6 @@
 -- Stores that grow, what is there in them, and what is read of their conses.
-use Rattle.std.specs.Prelude.{◌≡◌, refl, ℕ, zero, suc, ◌+◌, ◌<◌, ◌≤◌, pos, Bool, true, false, ◌&&◌, nat_lt, List, [], ◌∷◌, ◌++◌, length, map, slice_get, All, Contains, ℤ, Option, Some, None, if◌then◌else◌}
+use Rattle.std.specs.Prelude.{◌≡◌, refl, ℕ, zero, suc, ◌<◌, pos, true, nat_lt, List, [], ◌∷◌, ◌++◌, length, slice_get, Contains, ℤ, Option, Some, None}
 use Rattle.std.specs.List.{list_all}
-use Rattle.std.specs.Option.{option_map, option_and_then}
 use Rattle.std.proofs.Common.{ap, sym, subst, ◌∙◌, arith, append_assoc, ◌⊎◌, inl, inr}
 use Rattle.std.proofs.lemmas.List.{append-nil, length-append}
 use Rattle.std.proofs.lemmas.Bool.{and_parts, and_from, ltb-true}
@@ -14,17 +13,17 @@ use Rattle.lisp_base.specs.declared.values.Val.{Val}
 use Rattle.lisp_base.specs.declared.values.Val.TheVariants.{Int, Char, Sym, Ref}
 use Rattle.lisp_base.specs.Sort.{number_of, index_of, symbol, nil, truth}
 use Rattle.lisp_base.specs.Spec.{Spec, Named, Integer, Signed, Unsigned, Mod, Member, Eql, And, Or, Not, Specs, no_spec, spec}
-use Rattle.lisp_base.specs.Lawful.{is_item, has_lawful_parts, all_lawful_parts, IsLawful}
+use Rattle.lisp_base.specs.Lawful.{is_item, has_lawful_parts, all_lawful_parts}
 use Rattle.lisp_base.specs.BaseNames.{base_names, lambda_list_names, left_out_names, helper_names}
-use Rattle.lisp_base.specs.Tables.{Symbol, Table, Object, Cons, Vector, Str, Fun, Cell, base_symbols, plain_symbol}
+use Rattle.lisp_base.specs.Tables.{Symbol, Object, Cons, Vector, Str, Fun, Cell, base_symbols}
 use Rattle.lisp_forms.specs.Conses.{is_nil, cons_parts, cons_at, cons_place, place_at, elements_within, elements}
 use Rattle.core_form.specs.Primitives.{in_range}
 use Rattle.declarations.specs.Declarations.{Typed}
 use Rattle.expansion.specs.declared.heads.Target.{Target}
 use Rattle.expansion.specs.declared.heads.Target.TheVariants.{Lexical, Global}
-use Rattle.expansion.specs.Scopes.{Scope, Check, of_binding, of_uses, rebound}
-use Rattle.expansion_laws.specs.There.{Stores, stores, SymbolIsThere, TypeIsThere, PlaceIsThere, PlaceMayBe, values_within, values_at, Reached, itself, within, ObjectIsPresent, IsPresent, an_integer, a_character, a_symbol, an_object, IsThere, AreSound, Grown, TypedIsThere, TargetIsThere, CheckIsThere, NameIsThere, ValuesStay}
-use Rattle.expansion_laws.proofs.ThereLists.{Each, no_more, one_more, Where, nothing_there, found_there, where_then, where_map, where_if, where_only, some_is_not_none, each_map, each_all, all_contained}
+use Rattle.expansion.specs.Scopes.{Check, of_binding, of_uses, rebound}
+use Rattle.expansion_laws.specs.There.{Stores, SymbolIsThere, TypeIsThere, PlaceIsThere, PlaceMayBe, values_within, values_at, Reached, itself, within, ObjectIsPresent, IsPresent, an_integer, a_character, a_symbol, an_object, IsThere, AreSound, Grown, TypedIsThere, TargetIsThere, CheckIsThere, NameIsThere, ValuesStay}
+use Rattle.expansion_laws.proofs.ThereLists.{Each, no_more, one_more, Where, nothing_there, found_there, where_then, where_map, where_if, some_is_not_none, each_map, each_all, all_contained}
 
 -- ---- growth
 
@@ -140,10 +139,6 @@ module _ {s t : Stores} (g : Grown s t) where
   pub place_stays : (p : Place) → PlaceIsThere s p → PlaceIsThere t p
   place_stays (places.File offset tail) h = tt
   place_stays (places.Prelude name) h = symbol_stays name h
-
-  pub place_may_stay : (p : Option Place) → PlaceMayBe s p → PlaceMayBe t p
-  place_may_stay None h = tt
-  place_may_stay (Some p) h = place_stays p h
 
   pub target_stays : (x : Target) → TargetIsThere s x → TargetIsThere t x
   target_stays (Lexical n) h = tt

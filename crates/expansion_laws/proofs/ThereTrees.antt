@@ -1,22 +1,20 @@
 -- Trees of which each node and each function names only what is there.
-use Rattle.std.specs.Prelude.{◌≡◌, refl, ℕ, zero, suc, ◌<◌, Bool, true, false, ◌&&◌, nat_lt, List, [], ◌∷◌, ◌++◌, length, map, flat_map, All, Option, Some, None}
+use Rattle.std.specs.Prelude.{◌≡◌, ℕ, true, List, [], ◌∷◌, ◌++◌, Option, Some, None}
 use Rattle.std.specs.List.{list_all}
-use Rattle.std.proofs.Common.{arith}
 use Rattle.std.proofs.lemmas.Bool.{and_parts, ltb-true}
 use Rattle.lisp_base.specs.declared.values.Place.{Place}
 use Rattle.lisp_base.specs.declared.values.Place.TheVariants as places
 use Rattle.lisp_base.specs.declared.values.SymId.{SymId}
 use Rattle.lisp_base.specs.declared.values.Val.{Val}
 use Rattle.lisp_base.specs.declared.values.Val.TheVariants.{Int, Char, Sym, Ref}
-use Rattle.lisp_base.specs.Sort.{number_of}
 use Rattle.lisp_base.specs.Spec.{Spec, Named, Integer, Signed, Unsigned, Mod, Member, Eql, And, Or, Not, Specs, no_spec, spec}
 use Rattle.lisp_base.specs.Lawful.{is_item, has_lawful_parts, all_lawful_parts}
 use Rattle.core_form.specs.Tree.{Parameter, Core, Quote, Local, SetLocal, Global, SetGlobal, If, Progn, Let, Function, Labels, CallLocal, CallGlobal, Funcall, Apply, MvCall, FunLocal, FunGlobal, SetFun, Primitive, Is, The, Block, ReturnFrom, Tagbody, Go, Catch, Throw, Unwind, Values, MvProg1, Cores, no_core, core, Bindings, no_binding, binding, Optionals, no_optional, optional, Lambda, lambda, Definitions, no_definition, define, Items, no_item, tag, step, place_of}
-use Rattle.core_form.specs.Facts.{FunctionText, gather, gather_all, gather_bindings, gather_optionals, gather_lambda, gather_definitions, gather_items, no_function, at_nodes, let_parameters, function_parameters, parameters_of, parameters_in, TagText, tag_texts, item_tags}
-use Rattle.core_form.specs.Lawful.{place_symbols, value_symbols, item_symbols, spec_symbols, specs_symbols, variable_symbols, types_symbols, parameter_symbols, own_symbols, node_symbols, tree_symbols, types_here, types_in, quoted_here, quoted, is_tag, tags_in}
-use Rattle.expansion_laws.specs.There.{Stores, stores, SymbolIsThere, IsThere, TypeIsThere, PlaceIsThere, Grown, TreeIsThere}
+use Rattle.core_form.specs.Facts.{FunctionText, gather, gather_all, gather_bindings, gather_optionals, gather_lambda, gather_definitions, gather_items, no_function, at_nodes, let_parameters, function_parameters, parameters_in, TagText, tag_texts}
+use Rattle.core_form.specs.Lawful.{place_symbols, value_symbols, item_symbols, spec_symbols, specs_symbols, variable_symbols, types_symbols, parameter_symbols, own_symbols, node_symbols, types_here, quoted_here, is_tag}
+use Rattle.expansion_laws.specs.There.{Stores, SymbolIsThere, IsThere, TypeIsThere, PlaceIsThere, Grown, TreeIsThere}
 use Rattle.expansion_laws.proofs.ThereLists.{Each, no_more, one_more, each_map, each_append, each_head, each_tail, each_all, each_mapped, each_flat}
-use Rattle.expansion_laws.proofs.ThereStores.{value_stays, values_stay, symbol_stays, symbols_stay, type_stays, types_stay, place_stays}
+use Rattle.expansion_laws.proofs.ThereStores.{values_stay, symbols_stay, types_stay, place_stays}
 
 -- ---- nodes and functions
 

@@ -1,20 +1,19 @@
 -- Types that forms write may be written with the symbols of the table.
-use Rattle.std.specs.Prelude.{◌≡◌, refl, ℕ, zero, suc, ◌+◌, ◌*◌, ◌≤◌, ℤ, pos, negsuc, nat_le, int_le, Bool, true, false, ◌&&◌, List, [], ◌∷◌, codes, Option, Some, None, if◌then◌else◌}
+use Rattle.std.specs.Prelude.{◌≡◌, refl, ℕ, zero, suc, ◌*◌, ℤ, pos, negsuc, nat_le, int_le, Bool, true, false, ◌&&◌, List, codes, Option, Some, None, if◌then◌else◌}
 use Rattle.std.specs.List.{list_all}
-use Rattle.std.specs.Option.{option_map, option_and_then}
+use Rattle.std.specs.Option.{option_and_then}
 use Rattle.std.specs.Str.{bytes_eq}
-use Rattle.std.proofs.Common.{ap, sym, arith}
+use Rattle.std.proofs.Common.{arith}
 use Rattle.std.proofs.lemmas.Bool.{and_from}
 use Rattle.std.proofs.lemmas.Bool.Decides.{nat_tests}
 use Rattle.lisp_base.specs.declared.values.Val.{Val}
 use Rattle.lisp_base.specs.declared.values.Val.TheVariants.{Int, Char, Sym, Ref}
-use Rattle.lisp_base.specs.declared.types.TypeName.{TypeName}
 use Rattle.lisp_base.specs.declared.types.Bound.{Bound}
 use Rattle.lisp_base.specs.declared.types.Bound.TheVariants as bound
-use Rattle.lisp_base.specs.Spec.{Spec, Named, Integer, Signed, Unsigned, Mod, Member, Eql, And, Or, Not, Specs, no_spec, spec, spec_size}
+use Rattle.lisp_base.specs.Spec.{Spec, Named, Signed, Unsigned, Mod, Member, Eql, And, Or, Not, Specs, spec, spec_size}
 use Rattle.lisp_base.specs.Tables.{Table, Object}
 use Rattle.lisp_base.specs.Lawful.{is_integer_value, is_item, is_bound, is_width, has_lawful_parts, all_lawful_parts, most_parts, IsLawful}
-use Rattle.type_spec.specs.Forms.{cons_at, is_nil, only_of, operator_of, operator_at, type_at, word_at, width_of, count_of, item_of, integer_of, open_of, bound_of, upper_of, bounds_of, first_of}
+use Rattle.type_spec.specs.Forms.{cons_at, is_nil, only_of, operator_of, type_at, word_at, width_of, count_of, item_of, integer_of, open_of, bound_of, upper_of, bounds_of, first_of}
 use Rattle.type_spec.specs.Parsing.{items_within, with_operands, parsed, all_parsed, if_small, specifier}
 use Rattle.expansion_laws.proofs.ThereLists.{Where, nothing_there, found_there, where_then, where_map, where_if, where_passed, where_all}
 

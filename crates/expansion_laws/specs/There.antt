@@ -18,7 +18,7 @@ use Rattle.declarations.specs.Declarations.{Typed}
 use Rattle.expansion.specs.declared.heads.Target.{Target}
 use Rattle.expansion.specs.declared.heads.Target.TheVariants.{Lexical, Global}
 use Rattle.expansion.specs.Scopes.{Scope, Check, of_binding, of_uses, rebound}
-use Rattle.expansion.specs.Steps.{World, Answer, gives}
+use Rattle.expansion.specs.Steps.{World, gives}
 use Rattle.expansion.specs.Expanding.{expand}
 
 -- ---- tables and heaps

@@ -1,6 +1,5 @@
 -- What is read of a form that is there, and what is made of it, is there; and scopes in which all is there. (This project's own.)
-use Rattle.std.specs.Prelude.{◌≡◌, List, All, Option, Some}
-use Rattle.lisp_base.specs.declared.values.SymId.{SymId}
+use Rattle.std.specs.Prelude.{◌≡◌, List, All, Some}
 use Rattle.lisp_base.specs.declared.values.Val.{Val}
 use Rattle.lisp_base.specs.Spec.{Spec}
 use Rattle.lisp_base.specs.Lawful.{IsLawful}
