@@ -21,7 +21,8 @@ use Rattle.expansion_laws.proofs.ThereSteps.{IsInOrder, Later, Safe, goes, pure_
 use Rattle.expansion_laws.proofs.ThereSketches.{BinderIsThere, OptionalIsThere, SketchIsThere, a_form, a_choice, a_bind, a_block, a_within, FunctionIsThere, of_parts, a_body}
 
 -- what a test of the world finds, or a refusal
-pub found_safe : {A : Type 0} (P : Stores → A → Type 0) (sc : Scope) (f : World → Option A) {w : World} → IsInOrder w → Where (P (stores_of w)) (f w) → Safe w P ((look f >>= expect sc) w)
+pub found_safe : {A : Type 0} (P : Stores → A → Type 0) (sc : Scope) (f : World → Option A) {w : World} → IsInOrder w → Where (P (stores_of w)) (f w) →
+    Safe w P ((look f >>= expect sc) w)
 found_safe {A} P sc f o h = then_safe _ _ (look_safe {P = λ (s : Stores) (m : Option A). Where (P s) m} f o h) (λ m u l k. expect_safe sc m l.order k)
 
 -- a result of changed stores
@@ -47,7 +48,8 @@ module _ (s : Stores) where
   pub others_there : (bound : List SymId) (d : Declared) → DeclaredAreThere s d → DeclaredAreThere s (others bound d)
   others_there bound d h = record { types = each_filter _ h.types; specials = each_filter _ h.specials }
 
-  pub let_there : (d : Declared) (bs : List (SymId × Val)) (x : Sketch) → DeclaredAreThere s d → Each (NamedValueIsThere s) bs → SketchIsThere s x → SketchIsThere s (let_sketch d bs x)
+  pub let_there : (d : Declared) (bs : List (SymId × Val)) (x : Sketch) → DeclaredAreThere s d → Each (NamedValueIsThere s) bs → SketchIsThere s x →
+      SketchIsThere s (let_sketch d bs x)
   unfolding let_sketch
   let_there d bs x h k l =
       a_bind (each_mapped (λ (p : SymId × Val). initial (bound_by d p.0) p.1) (λ p i. record { binder = bound_by_there d p.0 h i.0; value = i.1 }) k) (a_within (others_there (names bs) d h) l)
@@ -57,7 +59,8 @@ module _ (s : Stores) where
   nested_there d (p ∷ bs) x h (one_more k ks) l =
       a_bind (one_more (record { binder = bound_before_there (names bs) d p.0 h k.0; value = k.1 }) no_more) (nested_there d bs x h ks l)
 
-  pub let_in_order_there : (d : Declared) (bs : List (SymId × Val)) (x : Sketch) → DeclaredAreThere s d → Each (NamedValueIsThere s) bs → SketchIsThere s x → SketchIsThere s (let_in_order d bs x)
+  pub let_in_order_there : (d : Declared) (bs : List (SymId × Val)) (x : Sketch) → DeclaredAreThere s d → Each (NamedValueIsThere s) bs → SketchIsThere s x →
+      SketchIsThere s (let_in_order d bs x)
   unfolding let_in_order
   let_in_order_there d [] x h k l = a_bind no_more l
   let_in_order_there d (p ∷ bs) x h k l = nested_there d (p ∷ bs) x h k l
@@ -99,7 +102,8 @@ module _ (s : Stores) where
     supplied = where_map _ k.supplied (λ x i. bound_before_there s later d x h i);
   }
 
-  round_there : (l : LambdaList) (rest : Option SymId) (later : List SymId) (d : Declared) (x : Sketch) → DeclaredAreThere s d → LambdaListIsThere s l → Where (SymbolIsThere s) rest → SketchIsThere s x → FunctionIsThere s (parameters_round l rest later d x)
+  round_there : (l : LambdaList) (rest : Option SymId) (later : List SymId) (d : Declared) (x : Sketch) → DeclaredAreThere s d → LambdaListIsThere s l →
+      Where (SymbolIsThere s) rest → SketchIsThere s x → FunctionIsThere s (parameters_round l rest later d x)
   round_there l rest later d x h k r i =
       of_parts (each_mapped (bound_before later d) (λ y j. bound_before_there s later d y h j) k.required)
       (each_mapped (optional_by later d) (λ y j. optional_there later d y h j) k.optional)
@@ -109,15 +113,18 @@ module _ (s : Stores) where
   in_block_there None x n h = h
   in_block_there (Some y) x (found_there k) h = a_block k h
 
-  body_within_there : AreSound s → (bound : List SymId) (name : Option SymId) (c : Contents) → Where (SymbolIsThere s) name → ContentsAreThere s c → SketchIsThere s (body_within bound name c)
+  body_within_there : AreSound s → (bound : List SymId) (name : Option SymId) (c : Contents) → Where (SymbolIsThere s) name → ContentsAreThere s c →
+      SketchIsThere s (body_within bound name c)
   body_within_there sound bound name c n h = a_within (others_there s bound c.declared h.declared) (in_block_there name _ n (a_body c.forms sound h.forms))
 
-  plain_there : AreSound s → (l : LambdaList) (name : Option SymId) (c : Contents) → LambdaListIsThere s l → Where (SymbolIsThere s) name → ContentsAreThere s c → FunctionIsThere s (plain_function l name c)
+  plain_there : AreSound s → (l : LambdaList) (name : Option SymId) (c : Contents) → LambdaListIsThere s l → Where (SymbolIsThere s) name → ContentsAreThere s c →
+      FunctionIsThere s (plain_function l name c)
   unfolding plain_function
   plain_there sound l name c k n h =
       round_there l l.rest _ c.declared _ h.declared k k.rest (nested_there s c.declared l.auxiliary _ h.declared k.auxiliary (body_within_there sound _ name c n h))
 
-  keyed_there : AreSound s → (l : LambdaList) (rest : SymId) (name : Option SymId) (c : Contents) (f : KeyForms) → LambdaListIsThere s l → SymbolIsThere s rest → Where (SymbolIsThere s) name → ContentsAreThere s c → KeyFormsAreThere s f →
+  keyed_there : AreSound s → (l : LambdaList) (rest : SymId) (name : Option SymId) (c : Contents) (f : KeyForms) → LambdaListIsThere s l → SymbolIsThere s rest →
+      Where (SymbolIsThere s) name → ContentsAreThere s c → KeyFormsAreThere s f →
       FunctionIsThere s (keyed_function l rest name c f)
   unfolding keyed_function
   keyed_there sound l rest name c f k r n h i =
@@ -147,12 +154,14 @@ unfolding rest_or_fresh
 rest_safe sc None o h = fresh_safe sc o
 rest_safe sc (Some x) o (found_there h) = pure_safe x o h
 
-keys_by_safe : (sc : Scope) (m : Option (KeyForms × Table × List Object)) {w : World} → IsInOrder w → Where (KeyFormsMade w.table w.heap) m → Safe w KeyFormsAreThere (keys_by sc m w)
+keys_by_safe : (sc : Scope) (m : Option (KeyForms × Table × List Object)) {w : World} → IsInOrder w → Where (KeyFormsMade w.table w.heap) m →
+    Safe w KeyFormsAreThere (keys_by sc m w)
 unfolding keys_by
 keys_by_safe sc None o h = refuse_safe TooManySymbols sc
 keys_by_safe sc (Some made) {w} o (found_there k) = goes (later_stores (stores made.1 made.2) o k.sound k.grown) k.there
 
-keys_safe : (sc : Scope) (rest : SymId) (ds : List Default) {w : World} → IsInOrder w → SymbolIsThere (stores_of w) rest → Each (DefaultIsThere (stores_of w)) ds → Safe w KeyFormsAreThere (make_keys sc rest ds w)
+keys_safe : (sc : Scope) (rest : SymId) (ds : List Default) {w : World} → IsInOrder w → SymbolIsThere (stores_of w) rest → Each (DefaultIsThere (stores_of w)) ds →
+    Safe w KeyFormsAreThere (make_keys sc rest ds w)
 unfolding make_keys
 keys_safe sc rest ds {w} o h k = keys_by_safe sc (key_forms rest ds w.table w.heap) o (key_forms_made rest ds w.table w.heap o.sound h k)
 
@@ -167,19 +176,22 @@ with_keys_safe sc l name c (Some ds) o k n h (found_there i) =
     pure_safe _ b.order (keyed_there (stores_of x) b.order.sound l rest name c f
     (lambda_list_stays b.grown l (lambda_list_stays a.grown l k)) (symbol_stays b.grown rest r) (where_each (where_each n (symbol_stays a.grown)) (symbol_stays b.grown)) (contents_stay b.grown c (contents_stay a.grown c h)) j)))
 
-with_list_safe : (sc : Scope) (name : Option SymId) (vs : List Val) (l : LambdaList) {w : World} → IsInOrder w → Where (SymbolIsThere (stores_of w)) name → ValuesAreThere (stores_of w) vs → LambdaListIsThere (stores_of w) l → Safe w FunctionIsThere (function_with sc name vs l w)
+with_list_safe : (sc : Scope) (name : Option SymId) (vs : List Val) (l : LambdaList) {w : World} → IsInOrder w → Where (SymbolIsThere (stores_of w)) name →
+    ValuesAreThere (stores_of w) vs → LambdaListIsThere (stores_of w) l → Safe w FunctionIsThere (function_with sc name vs l w)
 unfolding function_with
 with_list_safe sc name vs l o n h k =
     then_safe _ _ (contents_safe sc vs o h) (λ c u a i. with_keys_safe sc l name c l.keys a.order (lambda_list_stays a.grown l k) (where_each n (symbol_stays a.grown)) i (where_each k.keys (λ ds j. defaults_stay a.grown j)))
 
-from_list_safe : (sc : Scope) (name : Option SymId) (vs : List Val) {w : World} → IsInOrder w → Where (SymbolIsThere (stores_of w)) name → ValuesAreThere (stores_of w) vs → Safe w FunctionIsThere (function_from sc name vs w)
+from_list_safe : (sc : Scope) (name : Option SymId) (vs : List Val) {w : World} → IsInOrder w → Where (SymbolIsThere (stores_of w)) name →
+    ValuesAreThere (stores_of w) vs → Safe w FunctionIsThere (function_from sc name vs w)
 unfolding function_from
 from_list_safe sc name [] o n h = refuse_safe BadForm sc
 from_list_safe sc name (l ∷ vs) {w} o n (one_more h hs) =
     then_safe _ _ (found_safe LambdaListIsThere sc _ o (lambda_list_there (stores_of w) o.sound l h))
     (λ x u a k. with_list_safe sc name vs x a.order (where_each n (symbol_stays a.grown)) (values_stay a.grown hs) k)
 
-pub function_safe : (sc : Scope) (name : Option SymId) (v : Val) {w : World} → IsInOrder w → IsThere (stores_of w) v → Where (SymbolIsThere (stores_of w)) name → Safe w FunctionIsThere (function_sketch sc name v w)
+pub function_safe : (sc : Scope) (name : Option SymId) (v : Val) {w : World} → IsInOrder w → IsThere (stores_of w) v → Where (SymbolIsThere (stores_of w)) name →
+    Safe w FunctionIsThere (function_sketch sc name v w)
 unfolding function_sketch
 function_safe sc name v {w} o i n =
     then_safe _ _ (found_safe ValuesAreThere sc _ o (elements_there (stores_of w) v i)) (λ vs u a k. from_list_safe sc name vs a.order (where_each n (symbol_stays a.grown)) k)

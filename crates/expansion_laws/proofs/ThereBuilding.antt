@@ -40,12 +40,14 @@ module _ (table : Table) where
   abbrev pub MadeIn : {A : Type 0} → (Stores → A → Type 0) → List Object → A × List Object → Type 0
   MadeIn P heap made = Made (stores table heap) P made.0 (stores table made.1)
 
-  pub cons_made : (car cdr : Val) (heap : List Object) → AreSound (stores table heap) → IsThere (stores table heap) car → IsThere (stores table heap) cdr → MadeIn IsThere heap (made_cons car cdr heap)
+  pub cons_made : (car cdr : Val) (heap : List Object) → AreSound (stores table heap) → IsThere (stores table heap) car → IsThere (stores table heap) cdr →
+      MadeIn IsThere heap (made_cons car cdr heap)
   cons_made car cdr heap sound h k =
       let g = grown_heap (stores table heap) (Cons car cdr None ∷ []) in
       record { sound = record { begins = sound.begins }; grown = g; there = cons_is_there _ _ car cdr (get_last heap (Cons car cdr None)) (value_stays g car h) (value_stays g cdr k) }
 
-  pub list_made : (vs : List Val) (tail : Val) (heap : List Object) → AreSound (stores table heap) → ValuesAreThere (stores table heap) vs → IsThere (stores table heap) tail → MadeIn IsThere heap (made_list vs tail heap)
+  pub list_made : (vs : List Val) (tail : Val) (heap : List Object) → AreSound (stores table heap) → ValuesAreThere (stores table heap) vs →
+      IsThere (stores table heap) tail → MadeIn IsThere heap (made_list vs tail heap)
   list_made [] tail heap sound hs k = made_as_is IsThere tail sound k
   list_made (v ∷ vs) tail heap sound (one_more h hs) k =
       let rest = list_made vs tail heap sound hs k in
@@ -92,6 +94,7 @@ module _ (table : Table) (symbols : List Val) (before : Val) where
 
   mutual
     unfolding built built_each
+
     pub tree_built : (x : Tree) (heap : List Object) → Ready heap → FormsAreThere (stores table heap) x → MadeIn table IsThere heap (built symbols before x heap)
     tree_built (form v) heap r (form_there h) = made_as_is IsThere v r.sound h
     tree_built (fresh n) heap r h = made_as_is IsThere _ r.sound (each_index n nil (nil_there r.sound) r.symbols_there)
@@ -100,7 +103,8 @@ module _ (table : Table) (symbols : List Val) (before : Val) where
         let each = trees_built xs heap r hs in
         made_from each.grown (list_made table _ tail _ each.sound each.there (value_stays each.grown tail h))
 
-    pub trees_built : (xs : Trees) (heap : List Object) → Ready heap → AllFormsAreThere (stores table heap) xs → MadeIn table ValuesAreThere heap (built_each symbols before xs heap)
+    pub trees_built : (xs : Trees) (heap : List Object) → Ready heap → AllFormsAreThere (stores table heap) xs →
+        MadeIn table ValuesAreThere heap (built_each symbols before xs heap)
     trees_built none heap r h = made_as_is ValuesAreThere [] r.sound no_more
     trees_built (also x xs) heap r (also_there h hs) =
         let first = tree_built x heap r h in
@@ -145,7 +149,8 @@ fresh_made table heap sound = symbol_added _ _ table heap sound
 pub interned_made : (name : List ℕ) (kind : SymKind) (table : Table) (heap : List Object) → AreSound (stores table heap) → Where (SymbolMade table heap) (interned name kind table)
 interned_made name kind table heap sound = by (nat_lt (position_or_len (is_symbol name kind) table.symbols) (length table.symbols)) (λ e. ltb-true _ _ e)
   where
-    by : (b : Bool) → (b ≡ true → position_or_len (is_symbol name kind) table.symbols < length table.symbols) → Where (SymbolMade table heap) (found_or_added (if b then Some (position_or_len (is_symbol name kind) table.symbols) else None) (make_symbol name kind) table)
+    by : (b : Bool) → (b ≡ true → position_or_len (is_symbol name kind) table.symbols < length table.symbols) →
+        Where (SymbolMade table heap) (found_or_added (if b then Some (position_or_len (is_symbol name kind) table.symbols) else None) (make_symbol name kind) table)
     by false k = symbol_added _ _ table heap sound
     by true k = found_there (made_as_is SymbolIsThere (symbol (position_or_len (is_symbol name kind) table.symbols)) sound (k refl))
 

@@ -60,7 +60,8 @@ module _ (sc : Scope) where
       by None e k = rw e (nil_there sound)
       by (Some p) e (found_there k) = rw e k.1
 
-  defun_safe : (arguments : Val) (vs : List Val) {w : World} → Here w sc → IsThere (stores_of w) arguments → ValuesAreThere (stores_of w) vs → Safe w PlanIsThere (defun_plan sc arguments vs w)
+  defun_safe : (arguments : Val) (vs : List Val) {w : World} → Here w sc → IsThere (stores_of w) arguments → ValuesAreThere (stores_of w) vs →
+      Safe w PlanIsThere (defun_plan sc arguments vs w)
   unfolding defun_plan
   defun_safe arguments [] here i h = refuse_safe BadForm sc
   defun_safe arguments (n ∷ vs) {w} here i (one_more h hs) =
@@ -140,7 +141,8 @@ module _ (sc : Scope) where
 
   -- ---- the table of operators
 
-  operator_safe : (o : Operator) (arguments : Val) (vs : List Val) {w : World} → Here w sc → IsThere (stores_of w) arguments → ValuesAreThere (stores_of w) vs → Safe w PlanIsThere (operator_plan o sc arguments vs w)
+  operator_safe : (o : Operator) (arguments : Val) (vs : List Val) {w : World} → Here w sc → IsThere (stores_of w) arguments → ValuesAreThere (stores_of w) vs →
+      Safe w PlanIsThere (operator_plan o sc arguments vs w)
   unfolding operator_plan
   operator_safe op.Quote v vs here i h = quote_safe sc vs here h
   operator_safe op.Function v vs here i h = function_plan_safe sc vs here h
@@ -195,7 +197,8 @@ module _ (sc : Scope) where
   called_safe make arguments o h f =
       then_safe _ _ (elements_safe sc arguments o h) (λ vs u l k. next_safe _ _ (few_safe sc vs l.order) (λ a x m i. makes_safe _ m.order (f (stores_of x) m.order.sound (grown_on l.grown m.grown) vs (values_stay m.grown k))))
 
-  global_safe : (v : Val) (x : SymId) (arguments : Val) (b : Bool) (o : Option Operator) {w : World} → Here w sc → IsThere (stores_of w) v → SymbolIsThere (stores_of w) x → IsThere (stores_of w) arguments →
+  global_safe : (v : Val) (x : SymId) (arguments : Val) (b : Bool) (o : Option Operator) {w : World} → Here w sc → IsThere (stores_of w) v →
+      SymbolIsThere (stores_of w) x → IsThere (stores_of w) arguments →
       Safe w PlanIsThere (global_plan sc v x arguments b o w)
   unfolding global_plan
   global_safe v x arguments true o here h k i = macro_safe v here.order h
@@ -207,7 +210,8 @@ module _ (sc : Scope) where
       by false true = refuse_safe BadForm sc
       by false false = called_safe (global_call x) arguments here.order i (λ s sound g vs j. a_global_call sound x vs (symbol_stays g x k) j)
 
-  named_safe : (v : Val) (x : SymId) (arguments : Val) (o : Option ℕ) {w : World} → Here w sc → IsThere (stores_of w) v → SymbolIsThere (stores_of w) x → IsThere (stores_of w) arguments →
+  named_safe : (v : Val) (x : SymId) (arguments : Val) (o : Option ℕ) {w : World} → Here w sc → IsThere (stores_of w) v → SymbolIsThere (stores_of w) x →
+      IsThere (stores_of w) arguments →
       Safe w PlanIsThere (named_plan sc v x arguments o w)
   unfolding named_plan
   named_safe v x arguments (Some f) here h k i = called_safe (calls_local f) arguments here.order i (λ s sound g vs j. a_local_call sound f vs j)
@@ -226,7 +230,8 @@ module _ (sc : Scope) where
   required_there : (s : Stores) (l : LambdaList) → LambdaListIsThere s l → Where (Each (SymbolIsThere s)) (only_required l)
   required_there s l h = by l.required l.optional l.rest l.keys l.auxiliary h.required
     where
-      by : (xs : List SymId) (os : List Default) (r : Option SymId) (ks : Option (List Default)) (bs : List (SymId × Val)) → Each (SymbolIsThere s) xs → Where (Each (SymbolIsThere s)) (only_required (make_list xs os r ks bs))
+      by : (xs : List SymId) (os : List Default) (r : Option SymId) (ks : Option (List Default)) (bs : List (SymId × Val)) → Each (SymbolIsThere s) xs →
+          Where (Each (SymbolIsThere s)) (only_required (make_list xs os r ks bs))
       by xs [] None None [] k = found_there k
       by xs [] None None (b ∷ bs) k = nothing_there
       by xs [] None (Some ks) bs k = nothing_there
@@ -236,38 +241,43 @@ module _ (sc : Scope) where
   abbrev LambdaBindings : Stores → List (SymId × Val) × List Val → Type 0
   LambdaBindings s p = NamedValues s p.0 × ValuesAreThere s p.1
 
-  of_lambda_there : (w : World) (vs : List Val) (fs : List Val) → IsInOrder w → ValuesAreThere (stores_of w) vs → ValuesAreThere (stores_of w) fs → Where (LambdaBindings (stores_of w)) (bindings_of_lambda w vs fs)
+  of_lambda_there : (w : World) (vs : List Val) (fs : List Val) → IsInOrder w → ValuesAreThere (stores_of w) vs → ValuesAreThere (stores_of w) fs →
+      Where (LambdaBindings (stores_of w)) (bindings_of_lambda w vs fs)
   of_lambda_there w vs [] o h k = nothing_there
   of_lambda_there w vs (l ∷ fs) o h (one_more k ks) =
       where_map _ (where_then _ (where_then only_required (lambda_list_there (stores_of w) o.sound l k) (λ x i. required_there (stores_of w) x i)) (λ xs i. paired_there (stores_of w) xs vs i h)) (λ bs i. (i, ks))
 
-  lambda_bindings_there : (operator : Val) (vs : List Val) (w : World) → IsInOrder w → IsThere (stores_of w) operator → ValuesAreThere (stores_of w) vs → Where (LambdaBindings (stores_of w)) (lambda_bindings operator vs w)
+  lambda_bindings_there : (operator : Val) (vs : List Val) (w : World) → IsInOrder w → IsThere (stores_of w) operator → ValuesAreThere (stores_of w) vs →
+      Where (LambdaBindings (stores_of w)) (lambda_bindings operator vs w)
   unfolding lambda_bindings
   lambda_bindings_there operator vs w o h k =
       where_then (bindings_of_lambda w vs) (where_then (elements w.heap) (lambda_in_there sc (stores_of w) operator h) (λ v i. elements_there (stores_of w) v i)) (λ fs i. of_lambda_there w vs fs o k i)
 
-  lambda_call_safe : (operator : Val) (vs : List Val) (m : Option (List (SymId × Val) × List Val)) {w : World} → Here w sc → IsThere (stores_of w) operator → ValuesAreThere (stores_of w) vs → Where (LambdaBindings (stores_of w)) m →
+  lambda_call_safe : (operator : Val) (vs : List Val) (m : Option (List (SymId × Val) × List Val)) {w : World} → Here w sc → IsThere (stores_of w) operator →
+      ValuesAreThere (stores_of w) vs → Where (LambdaBindings (stores_of w)) m →
       Safe w PlanIsThere (lambda_call sc operator vs m w)
   unfolding lambda_call
   lambda_call_safe operator vs None here h k i = makes_safe _ here.order (a_calling (a_form h) (the_sketches (the_forms k)))
   lambda_call_safe operator vs (Some p) here h k (found_there i) =
       then_safe _ _ (contents_safe sc p.1 here.order i.1) (λ c u l j. makes_safe _ l.order (let_there _ c.declared p.0 _ j.declared (each_map (named_value_stays l.grown) i.0) (a_body c.forms l.order.sound j.forms)))
 
-  lambda_on_safe : (operator : Val) (vs : List Val) {w : World} → Here w sc → IsThere (stores_of w) operator → ValuesAreThere (stores_of w) vs → Safe w PlanIsThere ((few sc vs >> look (lambda_bindings operator vs) >>= lambda_call sc operator vs) w)
+  lambda_on_safe : (operator : Val) (vs : List Val) {w : World} → Here w sc → IsThere (stores_of w) operator → ValuesAreThere (stores_of w) vs →
+      Safe w PlanIsThere ((few sc vs >> look (lambda_bindings operator vs) >>= lambda_call sc operator vs) w)
   lambda_on_safe operator vs here h k =
       then_safe _ _
-      (next_safe _ _ (few_safe sc vs here.order) (λ a u l i. look_safe {P = λ (s : Stores) (m : Option (List (SymId × Val) × List Val)). Where (LambdaBindings s) m} (lambda_bindings operator vs) l.order (lambda_bindings_there operator vs u l.order (value_stays l.grown operator h) (values_stay l.grown k)) ))
+      (next_safe _ _ (few_safe sc vs here.order) (λ a u l i. look_safe {P = λ (s : Stores) (m : Option (List (SymId × Val) × List Val)). Where (LambdaBindings s) m} (lambda_bindings operator vs) l.order (lambda_bindings_there operator vs u l.order (value_stays l.grown operator h) (values_stay l.grown k))))
       (λ m u l i. lambda_call_safe operator vs m (here_on l here) (value_stays l.grown operator h) (values_stay l.grown k) i)
 
-  lambda_form_safe : (operator arguments : Val) {w : World} → Here w sc → IsThere (stores_of w) operator → IsThere (stores_of w) arguments → Safe w PlanIsThere (lambda_plan_of sc operator arguments w)
+  lambda_form_safe : (operator arguments : Val) {w : World} → Here w sc → IsThere (stores_of w) operator → IsThere (stores_of w) arguments →
+      Safe w PlanIsThere (lambda_plan_of sc operator arguments w)
   unfolding lambda_plan_of
   lambda_form_safe operator arguments here h k =
       then_safe _ _
       (then_safe _ _
-        (next_safe _ _
-          (then_safe _ _ (look_safe {P = λ (s : Stores) (b : Bool). Unit {0}} (λ w. is_given (lambda_in w.heap operator)) here.order tt) (λ b u l i. only_safe sc b l.order))
-          (λ a u l i. look_safe {P = λ (s : Stores) (m : Option (List Val)). Where (ValuesAreThere s) m} (λ w. elements w.heap arguments) l.order (elements_there (stores_of u) arguments (value_stays l.grown arguments k))))
-        (λ m u l i. expect_safe {P = ValuesAreThere} sc m l.order i))
+      (next_safe _ _
+      (then_safe _ _ (look_safe {P = λ (s : Stores) (b : Bool). Unit {0}} (λ w. is_given (lambda_in w.heap operator)) here.order tt) (λ b u l i. only_safe sc b l.order))
+      (λ a u l i. look_safe {P = λ (s : Stores) (m : Option (List Val)). Where (ValuesAreThere s) m} (λ w. elements w.heap arguments) l.order (elements_there (stores_of u) arguments (value_stays l.grown arguments k))))
+      (λ m u l i. expect_safe {P = ValuesAreThere} sc m l.order i))
       (λ vs u l i. lambda_on_safe operator vs (here_on l here) (value_stays l.grown operator h) i)
 
   -- ---- all forms

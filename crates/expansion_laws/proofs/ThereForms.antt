@@ -74,11 +74,13 @@ module _ (s : Stores) where
   setting_there (Lexical n) h k = a_unary tt k
   setting_there (Global x) h k = a_unary h k
 
-pub set_target_there : (sc : Scope) (t : Target) (y : SymId) (x : Sketch) (w : World) → Here w sc → TargetIsThere (stores_of w) t → SketchIsThere (stores_of w) x → SketchIsThere (stores_of w) (set_target sc t y x w)
+pub set_target_there : (sc : Scope) (t : Target) (y : SymId) (x : Sketch) (w : World) → Here w sc → TargetIsThere (stores_of w) t → SketchIsThere (stores_of w) x →
+    SketchIsThere (stores_of w) (set_target sc t y x w)
 set_target_there sc t y x w here h k =
     setting_there (stores_of w) t h (a_checked _ x (each_append (types_of_there (stores_of w) y here.order.types) (types_set_there (stores_of w) t sc here.scope)) k)
 
-pub set_variable_there : (sc : Scope) (x : SymId) (v : Val) (w : World) → Here w sc → SymbolIsThere (stores_of w) x → IsThere (stores_of w) v → SketchIsThere (stores_of w) (set_variable sc x v w)
+pub set_variable_there : (sc : Scope) (x : SymId) (v : Val) (w : World) → Here w sc → SymbolIsThere (stores_of w) x → IsThere (stores_of w) v →
+    SketchIsThere (stores_of w) (set_variable sc x v w)
 unfolding set_variable
 set_variable_there sc x v w here h k = set_target_there sc _ x (form v) w here (variable_there (stores_of w) sc x here.scope h) (a_form k)
 
@@ -189,7 +191,8 @@ module _ (sc : Scope) where
       then_safe _ _ (elements_safe sc ds here.order h) (λ xs u l k. then_safe _ _ (contents_safe sc vs l.order (values_stay l.grown hs)) (λ c x m i.
       makes_safe _ m.order (the_functions (values_stay m.grown k) (a_within i.declared (a_body c.forms m.order.sound i.forms)))))
 
-  locally_forms_safe : (d : Declared) (vs : List Val) {w : World} → Here w sc → DeclaredAreThere (stores_of w) d → ValuesAreThere (stores_of w) vs → Safe w PlanIsThere (locally_forms d vs w)
+  locally_forms_safe : (d : Declared) (vs : List Val) {w : World} → Here w sc → DeclaredAreThere (stores_of w) d → ValuesAreThere (stores_of w) vs →
+      Safe w PlanIsThere (locally_forms d vs w)
   unfolding locally_forms
   locally_forms_safe d [] here h k = makes_safe _ here.order (a_within h (a_body [] (here_sound here) k))
   locally_forms_safe d (v ∷ []) here h (one_more k ks) = pure_safe _ here.order (a_declared h k)

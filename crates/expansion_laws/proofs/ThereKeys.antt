@@ -41,7 +41,8 @@ AreKeyed s ks = Each (KeyedIsThere s) ks
 abbrev KeyedMade : Table → List Object → List Keyed × Table → Type 0
 KeyedMade table heap p = Made (stores table heap) AreKeyed p.0 (stores p.1 heap)
 
-keyed_made : (ds : List Default) (table : Table) (heap : List Object) → AreSound (stores table heap) → Each (DefaultIsThere (stores table heap)) ds → Where (KeyedMade table heap) (keyed ds table)
+keyed_made : (ds : List Default) (table : Table) (heap : List Object) → AreSound (stores table heap) → Each (DefaultIsThere (stores table heap)) ds →
+    Where (KeyedMade table heap) (keyed ds table)
 keyed_made [] table heap sound h = found_there (record { sound = sound; grown = grown_same _; there = no_more })
 keyed_made (d ∷ ds) table heap sound (one_more h hs) =
     where_then _ (interned_made (name_of (slice_get table.symbols (number_of d.variable))) kind.Keyword table heap sound) (λ k m.
@@ -101,37 +102,43 @@ module _ (table : Table) where
   ready : (heap : List Object) → AreSound (stores table heap) → Ready table [] nil heap
   ready heap sound = record { sound = sound; symbols_there = no_more; before_there = nil_there sound }
 
-  form_made : (x : Tree) (heap : List Object) → AreSound (stores table heap) → FormsAreThere (stores table heap) x → Made (stores table heap) IsThere (made x heap).0 (stores table (made x heap).1)
+  form_made : (x : Tree) (heap : List Object) → AreSound (stores table heap) → FormsAreThere (stores table heap) x →
+      Made (stores table heap) IsThere (made x heap).0 (stores table (made x heap).1)
   form_made x heap sound h = tree_built table [] nil x heap (ready heap sound) h
 
   -- what is so of bindings with the heap after them
   abbrev Bound : List Object → List (SymId × Val) × List Object → Type 0
   Bound heap p = Made (stores table heap) NamedValues p.0 (stores table p.1)
 
-  one_bound : (heap : List Object) (v : SymId) (x : Tree) (p : List (SymId × Val) × List Object) → Bound heap p → SymbolIsThere (stores table heap) v → ((t : Stores) → AreSound t → Grown (stores table heap) t → FormsAreThere t x) → Bound heap (bound v x p)
+  one_bound : (heap : List Object) (v : SymId) (x : Tree) (p : List (SymId × Val) × List Object) → Bound heap p → SymbolIsThere (stores table heap) v →
+      ((t : Stores) → AreSound t → Grown (stores table heap) t → FormsAreThere t x) → Bound heap (bound v x p)
   one_bound heap v x p m h k =
       let last = form_made x p.1 m.sound (k _ m.sound m.grown) in
       let g = grown_on m.grown last.grown in
       record { sound = last.sound; grown = g; there = each_last _ (each_map (named_value_stays last.grown) m.there) (symbol_stays g v h, last.there) }
 
-  some_bound : (heap : List Object) (o : Option SymId) (x : Tree) (p : List (SymId × Val) × List Object) → Bound heap p → Where (SymbolIsThere (stores table heap)) o → ((t : Stores) → AreSound t → Grown (stores table heap) t → FormsAreThere t x) → Bound heap (bound_supplied o x p)
+  some_bound : (heap : List Object) (o : Option SymId) (x : Tree) (p : List (SymId × Val) × List Object) → Bound heap p →
+      Where (SymbolIsThere (stores table heap)) o → ((t : Stores) → AreSound t → Grown (stores table heap) t → FormsAreThere t x) → Bound heap (bound_supplied o x p)
   some_bound heap None x p m h k = m
   some_bound heap (Some v) x p m (found_there h) k = one_bound heap v x p m h k
 
-  key_bound : (heap : List Object) (g : SymId) (k : Keyed) (p : List (SymId × Val) × List Object) → Bound heap p → SymbolIsThere (stores table heap) g → KeyedIsThere (stores table heap) k → Bound heap (bound_key g k p)
+  key_bound : (heap : List Object) (g : SymId) (k : Keyed) (p : List (SymId × Val) × List Object) → Bound heap p → SymbolIsThere (stores table heap) g →
+      KeyedIsThere (stores table heap) k → Bound heap (bound_key g k p)
   key_bound heap g k p m h i =
       some_bound heap k.parameter.supplied _ _
       (one_bound heap k.parameter.variable _ p m i.parameter.variable (λ t sound up. value_fits sound g k.keyword _ (symbol_stays up g h) (symbol_stays up k.keyword i.keyword) (value_stays up _ i.parameter.value)))
       i.parameter.supplied (λ t sound up. supplied_fits sound g k.keyword (symbol_stays up g h) (symbol_stays up k.keyword i.keyword))
 
-  keys_bound : (heap : List Object) (g : SymId) (ks : List Keyed) (p : List (SymId × Val) × List Object) → Bound heap p → SymbolIsThere (stores table heap) g → AreKeyed (stores table heap) ks → Bound heap (bound_keys g ks p)
+  keys_bound : (heap : List Object) (g : SymId) (ks : List Keyed) (p : List (SymId × Val) × List Object) → Bound heap p → SymbolIsThere (stores table heap) g →
+      AreKeyed (stores table heap) ks → Bound heap (bound_keys g ks p)
   keys_bound heap g [] p m h i = m
   keys_bound heap g (k ∷ ks) p m h (one_more i is) = keys_bound heap g ks _ (key_bound heap g k p m h i) h is
 
   abbrev FormsMade : List Object → KeyForms × List Object → Type 0
   FormsMade heap p = Made (stores table heap) KeyFormsAreThere p.0 (stores table p.1)
 
-  forms_made : (heap : List Object) (g : SymId) (ks : List Keyed) → AreSound (stores table heap) → SymbolIsThere (stores table heap) g → AreKeyed (stores table heap) ks → FormsMade heap (made_forms g ks heap)
+  forms_made : (heap : List Object) (g : SymId) (ks : List Keyed) → AreSound (stores table heap) → SymbolIsThere (stores table heap) g →
+      AreKeyed (stores table heap) ks → FormsMade heap (made_forms g ks heap)
   unfolding made_forms
   forms_made heap g ks sound h hs =
       let test = form_made (test_tree g (map keyword_in ks)) heap sound (test_fits sound g _ h (each_mapped keyword_in (λ k i. i.keyword) hs)) in
@@ -148,7 +155,8 @@ module _ (table : Table) where
 abbrev pub KeyFormsMade : Table → List Object → KeyForms × Table × List Object → Type 0
 KeyFormsMade table heap p = Made (stores table heap) KeyFormsAreThere p.0 (stores p.1 p.2)
 
-pub key_forms_made : (rest : SymId) (ds : List Default) (table : Table) (heap : List Object) → AreSound (stores table heap) → SymbolIsThere (stores table heap) rest → Each (DefaultIsThere (stores table heap)) ds → Where (KeyFormsMade table heap) (key_forms rest ds table heap)
+pub key_forms_made : (rest : SymId) (ds : List Default) (table : Table) (heap : List Object) → AreSound (stores table heap) → SymbolIsThere (stores table heap) rest →
+    Each (DefaultIsThere (stores table heap)) ds → Where (KeyFormsMade table heap) (key_forms rest ds table heap)
 unfolding key_forms
 key_forms_made rest ds table heap sound h hs =
     where_map _ (keyed_made ds table heap sound hs) (λ k m.

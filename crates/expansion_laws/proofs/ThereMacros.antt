@@ -254,7 +254,8 @@ module _ (s : Stores) (sound : AreSound s) where
   ClausesAreThere cs = Each ClauseIsThere cs
 
   -- the clauses, by what makes their forms, around what is at the end
-  chosen_there : (a : Val) (end : Tree) (to : Clause → Tree) {clauses : List Clause} → ((c : Clause) → ClauseIsThere c → FormsAreThere s (to c)) → IsThere s a → FormsAreThere s end → ClausesAreThere clauses →
+  chosen_there : (a : Val) (end : Tree) (to : Clause → Tree) {clauses : List Clause} → ((c : Clause) → ClauseIsThere c → FormsAreThere s (to c)) → IsThere s a →
+      FormsAreThere s end → ClausesAreThere clauses →
       ExpansionIsThere s (expansion 1 end (reverse (map to clauses) ++ kept a (inner ∷ []) ∷ []))
   chosen_there a end to f h k cs = record { first = k; around = each_append (each_reversed (each_mapped to f cs)) (just (a_kept a _ h (just inner_there))) }
 
@@ -270,12 +271,14 @@ module _ (s : Stores) (sound : AreSound s) where
   split_there (c ∷ []) (one_more h hs) = split_if (is_default c.head) _ _ (no_more, a_call refl h.body) (one_more h no_more, a_word refl)
   split_there (c ∷ d ∷ ds) (one_more h hs) = let k = split_there (d ∷ ds) hs in (one_more h k.0, k.1)
 
-  case_there : (a : Val) (cs : List Val) (at : Val → Option Clause) (to : Clause → Tree) → ((v : Val) → IsThere s v → Where ClauseIsThere (at v)) → ((c : Clause) → ClauseIsThere c → FormsAreThere s (to c)) →
+  case_there : (a : Val) (cs : List Val) (at : Val → Option Clause) (to : Clause → Tree) → ((v : Val) → IsThere s v → Where ClauseIsThere (at v)) →
+      ((c : Clause) → ClauseIsThere c → FormsAreThere s (to c)) →
       IsThere s a → ValuesAreThere s cs → Where (ExpansionIsThere s) (option_and_then (λ clauses. chosen_by a to (before_default clauses)) (each at cs))
   case_there a cs at to f g h hs =
       where_then _ (each_there at f hs) (λ clauses k. let split = split_there clauses k in where_if (list_all (λ (c : Clause). not (is_default c.head)) (before_default clauses).0) _ _ (found_there (chosen_there a _ to g h split.1 split.0)) nothing_there)
 
-  exhausted_there : (a : Val) (cs : List Val) (at : Val → Option Clause) (to : Clause → Tree) (end : List Clause → Tree) → ((v : Val) → IsThere s v → Where ClauseIsThere (at v)) → ((c : Clause) → ClauseIsThere c → FormsAreThere s (to c)) →
+  exhausted_there : (a : Val) (cs : List Val) (at : Val → Option Clause) (to : Clause → Tree) (end : List Clause → Tree) →
+      ((v : Val) → IsThere s v → Where ClauseIsThere (at v)) → ((c : Clause) → ClauseIsThere c → FormsAreThere s (to c)) →
       ((clauses : List Clause) → ClausesAreThere clauses → FormsAreThere s (end clauses)) → IsThere s a → ValuesAreThere s cs →
       Where (ExpansionIsThere s) (option_map (λ clauses. expansion 1 (end clauses) (reverse (map to clauses) ++ kept a (inner ∷ []) ∷ [])) (each at cs))
   exhausted_there a cs at to end f g e h hs = where_map _ (each_there at f hs) (λ clauses k. chosen_there a _ to g h (e clauses k) k)
@@ -294,7 +297,8 @@ module _ (s : Stores) (sound : AreSound s) where
       parts_of_clause (head ∷ body) (one_more k ks) = where_map _ (f head k) (λ tests i. record { tests = i; body = ks })
 
   -- (IF (TYPEP G 'TYPE) (PROGN E*) REST), with the type of these tests
-  clause_form_there : {i t q p : ℕ} (type : List Val → Tree) (c : Clause) → IsBase i → IsBase t → IsBase q → IsBase p → ((tests : List Val) → ValuesAreThere s tests → FormsAreThere s (type tests)) → ClauseIsThere c →
+  clause_form_there : {i t q p : ℕ} (type : List Val → Tree) (c : Clause) → IsBase i → IsBase t → IsBase q → IsBase p →
+      ((tests : List Val) → ValuesAreThere s tests → FormsAreThere s (type tests)) → ClauseIsThere c →
       FormsAreThere s (list (form (Sym (symbol i)) ∷ list (form (Sym (symbol t)) ∷ fresh 0 ∷ list (form (Sym (symbol q)) ∷ type c.tests ∷ []) ∷ []) ∷ list (form (Sym (symbol p)) ∷ forms c.body) ∷ inner ∷ []))
   clause_form_there type c i t q p f h = of_three i (of_two t fresh_there (of_one q (f c.tests h.tests))) (a_call p h.body) inner_there
 
@@ -340,7 +344,8 @@ module _ (s : Stores) (sound : AreSound s) where
   next_there v (Some n) h (found_there k) = both (form_there h) (form_there k)
 
   -- a variable with its first and its next value
-  a_step : (v first : Val) (next : Option Val) → IsThere s v → IsThere s first → Where (IsThere s) next → Where (λ x. FormsAreThere s (step_binding x) × TreesAreThere s (step_sets x)) (step v first next)
+  a_step : (v first : Val) (next : Option Val) → IsThere s v → IsThere s first → Where (IsThere s) next →
+      Where (λ x. FormsAreThere s (step_binding x) × TreesAreThere s (step_sets x)) (step v first next)
   a_step v first next h k l = where_if (is_symbol v) _ _ (found_there (a_binding (form_there h) (form_there k), next_there v next h l)) nothing_there
 
   step_there : (vs : List Val) → ValuesAreThere s vs → Where (λ x. FormsAreThere s (step_binding x) × TreesAreThere s (step_sets x)) (step_from vs)
@@ -357,13 +362,15 @@ module _ (s : Stores) (sound : AreSound s) where
   end_there end results h hs = of_three refl (form_there h) (of_one refl (a_call refl hs)) (a_word refl)
 
   -- the form of DO and DO*, by the words that bind and set
-  a_round : (g t : ℕ) (steps : _) (test : Tree) (body : List Val) → IsBase g → IsBase t → Each (λ x. FormsAreThere s (step_binding x) × TreesAreThere s (step_sets x)) steps → FormsAreThere s test → ValuesAreThere s body →
+  a_round : (g t : ℕ) (steps : _) (test : Tree) (body : List Val) → IsBase g → IsBase t →
+      Each (λ x. FormsAreThere s (step_binding x) × TreesAreThere s (step_sets x)) steps → FormsAreThere s test → ValuesAreThere s body →
       FormsAreThere s (list (form (Sym (symbol g)) ∷ fresh 0 ∷ test ∷ forms body ++ list (form (Sym (symbol t)) ∷ flat_map step_sets steps) ∷ go_to (fresh 0) ∷ []))
   a_round _ _ steps test body g t h k l =
       a_list _ (one_more (a_word g) (one_more fresh_there (one_more k (each_append (the_forms l)
       (both (a_list _ (one_more (a_word t) (each_flat step_sets (λ x i. i.1) h))) (a_jump fresh_there))))))
 
-  a_do : (b g t : ℕ) (steps : _) (test : Tree) (body : List Val) → IsBase b → IsBase g → IsBase t → Each (λ x. FormsAreThere s (step_binding x) × TreesAreThere s (step_sets x)) steps → FormsAreThere s test → ValuesAreThere s body →
+  a_do : (b g t : ℕ) (steps : _) (test : Tree) (body : List Val) → IsBase b → IsBase g → IsBase t →
+      Each (λ x. FormsAreThere s (step_binding x) × TreesAreThere s (step_sets x)) steps → FormsAreThere s test → ValuesAreThere s body →
       FormsAreThere s (nil_block (list (form (Sym (symbol b)) ∷ list (map step_binding steps) ∷ forms (body_parts s.heap body).declarations
       ++ list (form (Sym (symbol g)) ∷ fresh 0 ∷ test ∷ forms (body_parts s.heap body).rest ++ list (form (Sym (symbol t)) ∷ flat_map step_sets steps) ∷ go_to (fresh 0) ∷ []) ∷ [])))
   a_do _ _ _ steps test body b g t h k l =
@@ -371,7 +378,8 @@ module _ (s : Stores) (sound : AreSound s) where
       a_block (a_list _ (one_more (a_word b) (one_more (a_list _ (each_mapped step_binding (λ x i. i.0) h)) (each_append (the_forms parts.declarations) (just (a_round _ _ steps test _ g t h k parts.rest))))))
 
   -- steps and an end test that are found
-  do_with_there : (f : _ → Val → List Val → Expansion) (bindings ending : Val) → ((steps : _) (end : Val) (results : List Val) → Each (λ x. FormsAreThere s (step_binding x) × TreesAreThere s (step_sets x)) steps → IsThere s end → ValuesAreThere s results → ExpansionIsThere s (f steps end results)) →
+  do_with_there : (f : _ → Val → List Val → Expansion) (bindings ending : Val) →
+      ((steps : _) (end : Val) (results : List Val) → Each (λ x. FormsAreThere s (step_binding x) × TreesAreThere s (step_sets x)) steps → IsThere s end → ValuesAreThere s results → ExpansionIsThere s (f steps end results)) →
       IsThere s bindings → IsThere s ending →
       Where (ExpansionIsThere s) (option_and_then (λ steps. option_and_then (ended_by (f steps)) (elements s.heap ending)) (option_and_then (each (step_at s.heap)) (elements s.heap bindings)))
   do_with_there f bindings ending k h i =
@@ -403,16 +411,17 @@ module _ (s : Stores) (sound : AreSound s) where
   -- a variable, a form and a result make these loops
   a_repeat : (v e r : Val) → IsThere s v → IsThere s e → IsThere s r →
       Where (λ x. (body : Parts) → PartsAreThere body → FormsAreThere s (dotimes_form x body) × FormsAreThere s (dolist_form x body)) (repeat v e r)
-  a_repeat v e r h k l = where_if (is_symbol v) _ _ (found_there (λ body b.
-      ( a_block (a_let _ _
-          (both (a_binding (form_there h) (a_number 0 (omega arith))) (a_binding fresh_there (of_two refl (a_word refl) (form_there k))))
-          (each_append (the_forms b.declarations) (just (a_list _ (one_more (a_word refl) (one_more fresh_there (one_more
-          (of_three refl (of_two refl (form_there h) fresh_there) (of_one refl (form_there l)) (a_word refl))
-          (each_append (the_forms b.rest) (both (of_two refl (form_there h) (of_two refl (form_there h) (a_number 1 (omega arith)))) (a_jump fresh_there))))))))))
-      , a_block (a_let _ _ (just (a_binding fresh_there (of_list_type (form_there k)))) (just (a_list _ (one_more (a_word refl) (one_more fresh_there (one_more
-          (of_three refl fresh_there (a_word refl) (of_one refl (a_let _ _ (just (a_binding (form_there h) (a_word refl))) (just (form_there l)))))
-          (one_more (a_let _ _ (just (a_binding (form_there h) (of_one refl fresh_there))) (each_append (the_forms b.declarations) (just (a_call refl b.rest))))
-          (both (of_two refl fresh_there (of_list_type (of_one refl fresh_there))) (a_jump fresh_there))))))))) ))) nothing_there
+  a_repeat v e r h k l = where_if (is_symbol v) _ _ (found_there (λ body b. (
+    a_block (a_let _ _
+        (both (a_binding (form_there h) (a_number 0 (omega arith))) (a_binding fresh_there (of_two refl (a_word refl) (form_there k))))
+        (each_append (the_forms b.declarations) (just (a_list _ (one_more (a_word refl) (one_more fresh_there (one_more
+        (of_three refl (of_two refl (form_there h) fresh_there) (of_one refl (form_there l)) (a_word refl))
+        (each_append (the_forms b.rest) (both (of_two refl (form_there h) (of_two refl (form_there h) (a_number 1 (omega arith)))) (a_jump fresh_there)))))))))),
+    a_block (a_let _ _ (just (a_binding fresh_there (of_list_type (form_there k)))) (just (a_list _ (one_more (a_word refl) (one_more fresh_there (one_more
+        (of_three refl fresh_there (a_word refl) (of_one refl (a_let _ _ (just (a_binding (form_there h) (a_word refl))) (just (form_there l)))))
+        (one_more (a_let _ _ (just (a_binding (form_there h) (of_one refl fresh_there))) (each_append (the_forms b.declarations) (just (a_call refl b.rest))))
+        (both (of_two refl fresh_there (of_list_type (of_one refl fresh_there))) (a_jump fresh_there))))))))),
+  ))) nothing_there
 
   repeat_there : (vs : List Val) → ValuesAreThere s vs → Where (λ x. (body : Parts) → PartsAreThere body → FormsAreThere s (dotimes_form x body) × FormsAreThere s (dolist_form x body)) (repeat_from vs)
   repeat_there [] h = nothing_there
@@ -521,7 +530,8 @@ module _ (s : Stores) (sound : AreSound s) where
 
   -- ---- MULTIPLE-VALUE-BIND, -LIST, -SETQ, NTH-VALUE, LAMBDA
 
-  receive_there : (variables : List Tree) (rest : Tree) (body : List Tree) (e : Val) → TreesAreThere s variables → FormsAreThere s rest → TreesAreThere s body → IsThere s e → FormsAreThere s (receive_form variables rest body e)
+  receive_there : (variables : List Tree) (rest : Tree) (body : List Tree) (e : Val) → TreesAreThere s variables → FormsAreThere s rest → TreesAreThere s body →
+      IsThere s e → FormsAreThere s (receive_form variables rest body e)
   receive_there variables rest body e vs r b h =
       of_two refl
       (a_list _ (one_more (a_word refl) (one_more (a_list _ (one_more (a_word refl) (each_append vs (both (a_word refl) r)))) b)))
@@ -638,7 +648,8 @@ pub data WhereExpanded (s : Stores) : Expanded → Type 0 where
   is_full : WhereExpanded s full
 
 module _ (table : Table) (heap : List Object) (sound : AreSound (stores table heap)) where
-  with_symbols_there : (x : Expansion) (o : Option (List Val × Table)) → ExpansionIsThere (stores table heap) x → Where (FreshMade table heap) o → WhereExpanded (stores table heap) (with_symbols x heap o)
+  with_symbols_there : (x : Expansion) (o : Option (List Val × Table)) → ExpansionIsThere (stores table heap) x → Where (FreshMade table heap) o →
+      WhereExpanded (stores table heap) (with_symbols x heap o)
   with_symbols_there x None h o = is_full
   with_symbols_there x (Some found) h (found_there k) =
       let first = tree_built found.1 found.0 nil x.first heap (record { sound = k.sound; symbols_there = k.there; before_there = nil_there k.sound }) (forms_stay k.grown h.first) in

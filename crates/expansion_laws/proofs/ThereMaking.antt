@@ -159,11 +159,13 @@ module _ {s : Stores} where
   unfolding gather_optionals
   no_optionals_whole = record { parts = no_more; variables = no_more }
 
-  optionals_whole : {x : Parameter} {e : Core} {r : Option Parameter} {os : Optionals} → ParameterIsThere s x → Whole s e → Each (ParameterIsThere s) (if_given r) → OptionalsWhole s os → OptionalsWhole s (optional x e r os)
+  optionals_whole : {x : Parameter} {e : Core} {r : Option Parameter} {os : Optionals} → ParameterIsThere s x → Whole s e → Each (ParameterIsThere s) (if_given r) →
+      OptionalsWhole s os → OptionalsWhole s (optional x e r os)
   unfolding gather_optionals
   optionals_whole h w r k = record { parts = each_append w k.parts; variables = one_more h (each_append r k.variables) }
 
-  lambda_whole : (n : ℕ) {xs : List Parameter} {os : Optionals} {r : Option Parameter} {e : Core} → Each (ParameterIsThere s) xs → OptionalsWhole s os → Each (ParameterIsThere s) (if_given r) → Whole s e → LambdaWhole s (lambda n xs os r e)
+  lambda_whole : (n : ℕ) {xs : List Parameter} {os : Optionals} {r : Option Parameter} {e : Core} → Each (ParameterIsThere s) xs → OptionalsWhole s os →
+      Each (ParameterIsThere s) (if_given r) → Whole s e → LambdaWhole s (lambda n xs os r e)
   unfolding gather_lambda
   lambda_whole n h k r w = record { parts = λ name p. one_more (record { variables = each_append (each_append h k.variables) r }) (each_append k.parts w) }
 
@@ -175,7 +177,8 @@ module _ {s : Stores} where
   unfolding gather_definitions
   no_definitions_whole = record { parts = no_more; names = no_more }
 
-  definitions_whole : (p : Place) (n : ℕ) (x : SymId) (l : Lambda) {ds : Definitions} → PlaceIsThere s p → SymbolIsThere s x → LambdaWhole s l → DefinitionsWhole s ds → DefinitionsWhole s (define p n x l ds)
+  definitions_whole : (p : Place) (n : ℕ) (x : SymId) (l : Lambda) {ds : Definitions} → PlaceIsThere s p → SymbolIsThere s x → LambdaWhole s l →
+      DefinitionsWhole s ds → DefinitionsWhole s (define p n x l ds)
   unfolding gather_definitions
   definitions_whole p n x l h i k ds = record { parts = each_append (k.parts (Some x) p) ds.parts; names = each_append (place_named s p h) (one_more i ds.names) }
 
@@ -315,7 +318,8 @@ MakesAt inner = (levels : ℕ) → Makes (inner levels)
 abbrev MakesIn : (Sketch → Step Core) → Scope → Type 0
 MakesIn inner sc = (x : Sketch) (w : World) → Here w sc → SketchIsThere (stores_of w) x → Safe w Whole (inner x w)
 
-each_safe : (inner : Sketch → Step Core) (sc : Scope) (xs : Sketches) → MakesIn inner sc → {w : World} → Here w sc → SketchesAreThere (stores_of w) xs → Safe w AllWhole (each inner xs w)
+each_safe : (inner : Sketch → Step Core) (sc : Scope) (xs : Sketches) → MakesIn inner sc → {w : World} → Here w sc → SketchesAreThere (stores_of w) xs →
+    Safe w AllWhole (each inner xs w)
 unfolding each
 each_safe inner sc no_sketch k here no_part = pure_safe _ here.order (none_whole)
 each_safe inner sc (sketch x xs) k here (a_part h hs) =
@@ -323,7 +327,8 @@ each_safe inner sc (sketch x xs) k here (a_part h hs) =
 
 -- ---- bindings
 
-values_safe : (inner : Sketch → Step Core) (sc : Scope) (ps : List (Bound × Val)) → MakesIn inner sc → {w : World} → Here w sc → ValueList (stores_of w) ps → Safe w BindingsWhole (values_bound inner ps w)
+values_safe : (inner : Sketch → Step Core) (sc : Scope) (ps : List (Bound × Val)) → MakesIn inner sc → {w : World} → Here w sc → ValueList (stores_of w) ps →
+    Safe w BindingsWhole (values_bound inner ps w)
 unfolding values_bound
 values_safe inner sc [] k here no_more = pure_safe _ here.order no_bindings_whole
 values_safe inner sc (p ∷ ps) k here (one_more h hs) =
@@ -334,7 +339,8 @@ values_safe inner sc (p ∷ ps) k here (one_more h hs) =
 bounds_there : {s : Stores} {ps : List (Bound × Val)} → ValueList s ps → BoundList s (bounds_of ps)
 bounds_there h = each_mapped (λ (p : Bound × Val). p.0) (λ p k. k.0) h
 
-binding_safe : (levels : ℕ) (inner : Inner) (sc : Scope) (bs : List Initial) (x : Sketch) → MakesAt inner → {w : World} → Here w sc → Each (InitialIsThere (stores_of w)) bs → SketchIsThere (stores_of w) x → Safe w Whole (binding_node levels inner sc bs x w)
+binding_safe : (levels : ℕ) (inner : Inner) (sc : Scope) (bs : List Initial) (x : Sketch) → MakesAt inner → {w : World} → Here w sc →
+    Each (InitialIsThere (stores_of w)) bs → SketchIsThere (stores_of w) x → Safe w Whole (binding_node levels inner sc bs x w)
 unfolding binding_node
 binding_safe levels inner sc bs x k here h i =
     then_safe _ _ (next_safe _ _ (begin_safe (1 + length bs) levels sc here.order) (λ a u l j. initials_safe bs l.order (each_map (initial_stays l.grown) h))) (λ ps u l j.
@@ -348,28 +354,31 @@ binding_safe levels inner sc bs x k here h i =
 abbrev DefaultsWhole : Stores → Optionals × Scope → Type 0
 DefaultsWhole s p = OptionalsWhole s p.0 × ScopeIsThere s p.1
 
-defaults_safe : (inner : Scope → Sketch → Step Core) (sc : Scope) (os : List BoundOptional) → Makes inner → {w : World} → Here w sc → OptionalList (stores_of w) os → Safe w DefaultsWhole (defaults inner sc os w)
+defaults_safe : (inner : Scope → Sketch → Step Core) (sc : Scope) (os : List BoundOptional) → Makes inner → {w : World} → Here w sc → OptionalList (stores_of w) os →
+    Safe w DefaultsWhole (defaults inner sc os w)
 unfolding defaults
 defaults_safe inner sc [] k here h = pure_safe _ here.order (no_optionals_whole, here.scope)
 defaults_safe inner sc (o ∷ os) k {w} here (one_more h hs) =
     then_safe _ _ (k sc (form o.default) _ here (a_form h.default)) (λ e u l i.
     let later = optional_bound_stays l.grown o h in
     then_safe _ _ (defaults_safe inner (with_some (with_bound sc o.bound) o.supplied) os k
-      (record { order = l.order; scope = with_some_there (stores_of u) _ o.supplied (with_bound_there (stores_of u) sc o.bound (scope_stays l.grown sc here.scope) later.bound) later.supplied })
-      (each_map (optional_bound_stays l.grown) hs)) (λ found y m j.
+    (record { order = l.order; scope = with_some_there (stores_of u) _ o.supplied (with_bound_there (stores_of u) sc o.bound (scope_stays l.grown sc here.scope) later.bound) later.supplied })
+    (each_map (optional_bound_stays l.grown) hs)) (λ found y m j.
     pure_safe _ m.order (optionals_whole (parameter_stays m.grown o.bound.1 later.bound.parameter) (parts_stay m.grown i) (some_parameter_there o.supplied (where_each later.supplied (bound_stays m.grown))) j.0, j.1)))
 
-body_tree_safe : (levels : ℕ) (inner : Inner) (sc : Scope) (n : ℕ) (xs : List Bound) (ys : List BoundOptional) (r : Option Bound) (x : Sketch) → MakesAt inner → {w : World} → Here w sc → BoundList (stores_of w) xs → OptionalList (stores_of w) ys → MaybeBound (stores_of w) r → SketchIsThere (stores_of w) x →
+body_tree_safe : (levels : ℕ) (inner : Inner) (sc : Scope) (n : ℕ) (xs : List Bound) (ys : List BoundOptional) (r : Option Bound) (x : Sketch) → MakesAt inner →
+    {w : World} → Here w sc → BoundList (stores_of w) xs → OptionalList (stores_of w) ys → MaybeBound (stores_of w) r → SketchIsThere (stores_of w) x →
     Safe w LambdaWhole ((begin (function_size xs ys r) levels sc >> defaults (inner (inside levels)) (with_all sc xs) ys >>= λ found. inner (inside levels) (with_some found.1 r) x >>= λ e. pure (lambda n (parameters xs) found.0 (parameter_some r) e)) w)
 body_tree_safe levels inner sc n xs ys r x k here h i j q =
     then_safe _ _ (next_safe _ _ (begin_safe (function_size xs ys r) levels sc here.order) (λ a u l b.
-      defaults_safe (inner (inside levels)) (with_all sc xs) ys (k (inside levels)) (record { order = l.order; scope = with_all_there (stores_of u) sc xs (scope_stays l.grown sc here.scope) (each_map (bound_stays l.grown) h) }) (each_map (optional_bound_stays l.grown) i)))
-    (λ found u l found_there'.
-    then_safe _ _ (k (inside levels) (with_some found.1 r) x _ (record { order = l.order; scope = with_some_there (stores_of u) found.1 r found_there'.1 (where_each j (bound_stays l.grown)) }) (sketch_stays l.grown q)) (λ e y m w.
+    defaults_safe (inner (inside levels)) (with_all sc xs) ys (k (inside levels)) (record { order = l.order; scope = with_all_there (stores_of u) sc xs (scope_stays l.grown sc here.scope) (each_map (bound_stays l.grown) h) }) (each_map (optional_bound_stays l.grown) i)))
+    (λ found u l defaults_made.
+    then_safe _ _ (k (inside levels) (with_some found.1 r) x _ (record { order = l.order; scope = with_some_there (stores_of u) found.1 r defaults_made.1 (where_each j (bound_stays l.grown)) }) (sketch_stays l.grown q)) (λ e y m w.
     let g = grown_on l.grown m.grown in
-    pure_safe _ m.order (lambda_whole n (parameters_there (each_map (bound_stays g) h)) (optionals_stay m.grown found_there'.0) (some_parameter_there r (where_each j (bound_stays g))) w)))
+    pure_safe _ m.order (lambda_whole n (parameters_there (each_map (bound_stays g) h)) (optionals_stay m.grown defaults_made.0) (some_parameter_there r (where_each j (bound_stays g))) w)))
 
-function_tree_safe : (levels : ℕ) (inner : Inner) (sc : Scope) (f : Function) → MakesAt inner → {w : World} → Here w sc → FunctionIsThere (stores_of w) f → Safe w LambdaWhole (function_tree levels inner sc f w)
+function_tree_safe : (levels : ℕ) (inner : Inner) (sc : Scope) (f : Function) → MakesAt inner → {w : World} → Here w sc → FunctionIsThere (stores_of w) f →
+    Safe w LambdaWhole (function_tree levels inner sc f w)
 unfolding function_tree
 function_tree_safe levels inner sc (function_of required optionals rest x) k here (of_parts rs os r h) =
     then_safe _ _ (function_number_safe here.order) (λ n u a _.
@@ -387,26 +396,29 @@ function_tree_safe levels inner sc (function_of required optionals rest x) k her
 abbrev DefinesWhole : Stores → (Definitions → Definitions) → Type 0
 DefinesWhole s d = (t : Stores) → Grown s t → (ds : Definitions) → DefinitionsWhole t ds → DefinitionsWhole t (d ds)
 
-defined_safe : (levels : ℕ) (inner : Inner) (sc : Scope) (n : ℕ) (v : Val) (x : SymId) → MakesAt inner → {w : World} → Here w sc → IsThere (stores_of w) v → SymbolIsThere (stores_of w) x → Safe w DefinesWhole (defined levels inner sc n v x w)
+defined_safe : (levels : ℕ) (inner : Inner) (sc : Scope) (n : ℕ) (v : Val) (x : SymId) → MakesAt inner → {w : World} → Here w sc → IsThere (stores_of w) v →
+    SymbolIsThere (stores_of w) x → Safe w DefinesWhole (defined levels inner sc n v x w)
 defined_safe levels inner sc n v x k {w} here h i =
     then_safe _ _
     (then_safe _ _
-      (then_safe _ _ (look_safe {P = IsThere} (λ w. tail_of w.heap v) here.order (tail_there sc (stores_of w) v here.order.sound h)) (λ y u l j. function_safe sc (Some x) y l.order j (found_there (symbol_stays l.grown x i))))
-      (λ f u l j. function_tree_safe levels inner sc f k (here_on l here) j))
+    (then_safe _ _ (look_safe {P = IsThere} (λ w. tail_of w.heap v) here.order (tail_there sc (stores_of w) v here.order.sound h)) (λ y u l j. function_safe sc (Some x) y l.order j (found_there (symbol_stays l.grown x i))))
+    (λ f u l j. function_tree_safe levels inner sc f k (here_on l here) j))
     (λ l u m j. pure_safe _ m.order (λ t g ds q. definitions_whole sc.place n x l (place_stays g sc.place (place_stays m.grown sc.place here.scope.place)) (symbol_stays g x (symbol_stays m.grown x i)) (lambda_stays g j) q))
 
 name_there : (s : Stores) (sc : Scope) (vs : List Val) → ValuesAreThere s vs → Where (SymbolIsThere s) (name_in sc vs)
 name_there s sc [] h = nothing_there
 name_there s sc (v ∷ vs) (one_more h hs) = definable_there sc s v h
 
-definition_safe : (levels : ℕ) (inner : Inner) (sc : Scope) (n : ℕ) (v : Val) → MakesAt inner → {w : World} → Here w sc → IsThere (stores_of w) v → Safe w DefinesWhole (definition_at levels inner sc n v w)
+definition_safe : (levels : ℕ) (inner : Inner) (sc : Scope) (n : ℕ) (v : Val) → MakesAt inner → {w : World} → Here w sc → IsThere (stores_of w) v →
+    Safe w DefinesWhole (definition_at levels inner sc n v w)
 unfolding definition_at
 definition_safe levels inner sc n v k {w} here h =
     then_safe _ _ (look_safe {P = ScopeIsThere} (λ w. at_form w.heap v sc) here.order (at_form_there (stores_of w) v sc h here.scope)) (λ own u l i.
     then_safe _ _ (found_safe SymbolIsThere own (λ w. option_and_then (name_in own) (elements w.heap v)) l.order (where_then _ (elements_there (stores_of u) v (value_stays l.grown v h)) (λ vs j. name_there (stores_of u) own vs j))) (λ x y m j.
     defined_safe levels inner own n v x k (record { order = m.order; scope = scope_stays m.grown own i }) (value_stays (grown_on l.grown m.grown) v h) j))
 
-definitions_safe : (levels : ℕ) (inner : Inner) (sc : Scope) (n : ℕ) (vs : List Val) → MakesAt inner → {w : World} → Here w sc → ValuesAreThere (stores_of w) vs → Safe w DefinitionsWhole (definitions levels inner sc n vs w)
+definitions_safe : (levels : ℕ) (inner : Inner) (sc : Scope) (n : ℕ) (vs : List Val) → MakesAt inner → {w : World} → Here w sc → ValuesAreThere (stores_of w) vs →
+    Safe w DefinitionsWhole (definitions levels inner sc n vs w)
 unfolding definitions
 definitions_safe levels inner sc n [] k here h = pure_safe _ here.order no_definitions_whole
 definitions_safe levels inner sc n (v ∷ vs) k here (one_more h hs) =
@@ -417,7 +429,8 @@ around_there : {s : Stores} (reach : Reach) (outer own : Scope) → ScopeIsThere
 around_there ForBody outer own h k = h
 around_there ForAll outer own h k = k
 
-functions_tree_safe : (levels : ℕ) (inner : Inner) (reach : Reach) (outer own : Scope) (n : ℕ) (vs : List Val) (x : Sketch) → MakesAt inner → {w : World} → Here w outer → ScopeIsThere (stores_of w) own → ValuesAreThere (stores_of w) vs → SketchIsThere (stores_of w) x →
+functions_tree_safe : (levels : ℕ) (inner : Inner) (reach : Reach) (outer own : Scope) (n : ℕ) (vs : List Val) (x : Sketch) → MakesAt inner → {w : World} →
+    Here w outer → ScopeIsThere (stores_of w) own → ValuesAreThere (stores_of w) vs → SketchIsThere (stores_of w) x →
     Safe w Whole (functions_tree levels inner reach outer own n vs x w)
 unfolding functions_tree
 functions_tree_safe levels inner reach outer own n vs x k here o h i =
@@ -425,7 +438,8 @@ functions_tree_safe levels inner reach outer own n vs x k here o h i =
     then_safe _ _ (k levels own x _ (record { order = l.order; scope = scope_stays l.grown own o }) (sketch_stays l.grown i)) (λ e y m q.
     pure_safe _ m.order (labels_whole outer.place ds e (place_stays (grown_on l.grown m.grown) outer.place here.scope.place) (definitions_stay m.grown j) q)))
 
-functions_safe : (levels : ℕ) (inner : Inner) (sc : Scope) (reach : Reach) (vs : List Val) (x : Sketch) → MakesAt inner → {w : World} → Here w sc → ValuesAreThere (stores_of w) vs → SketchIsThere (stores_of w) x → Safe w Whole (functions_node levels inner sc reach vs x w)
+functions_safe : (levels : ℕ) (inner : Inner) (sc : Scope) (reach : Reach) (vs : List Val) (x : Sketch) → MakesAt inner → {w : World} → Here w sc →
+    ValuesAreThere (stores_of w) vs → SketchIsThere (stores_of w) x → Safe w Whole (functions_node levels inner sc reach vs x w)
 unfolding functions_node
 functions_safe levels inner sc reach vs x k here h i =
     then_safe _ _ (next_safe _ _ (begin_safe 1 levels sc here.order) (λ a u l j. numbers_safe (length vs) l.order)) (λ n u l j.
@@ -433,7 +447,8 @@ functions_safe levels inner sc reach vs x k here h i =
     let g = grown_on l.grown m.grown in
     functions_tree_safe (inside levels) inner reach sc own n vs x k (record { order = m.order; scope = scope_stays g sc here.scope }) q (values_stay g h) (sketch_stays g i)))
 
-recursive_safe : (levels : ℕ) (inner : Inner) (sc : Scope) (x : SymId) (f : Function) → MakesAt inner → {w : World} → Here w sc → SymbolIsThere (stores_of w) x → FunctionIsThere (stores_of w) f → Safe w Whole (recursive_node levels inner sc x f w)
+recursive_safe : (levels : ℕ) (inner : Inner) (sc : Scope) (x : SymId) (f : Function) → MakesAt inner → {w : World} → Here w sc → SymbolIsThere (stores_of w) x →
+    FunctionIsThere (stores_of w) f → Safe w Whole (recursive_node levels inner sc x f w)
 unfolding recursive_node
 recursive_safe levels inner sc x f k here h i =
     then_safe _ _ (next_safe _ _ (begin_safe 1 levels sc here.order) (λ a u l j. numbers_safe 1 l.order)) (λ n u l j.
@@ -445,7 +460,8 @@ recursive_safe levels inner sc x f k here h i =
 
 -- ---- blocks and tags
 
-block_safe : (levels : ℕ) (inner : Inner) (sc : Scope) (b : SymId) (x : Sketch) → MakesAt inner → {w : World} → Here w sc → SymbolIsThere (stores_of w) b → SketchIsThere (stores_of w) x → Safe w Whole (block_node levels inner sc b x w)
+block_safe : (levels : ℕ) (inner : Inner) (sc : Scope) (b : SymId) (x : Sketch) → MakesAt inner → {w : World} → Here w sc → SymbolIsThere (stores_of w) b →
+    SketchIsThere (stores_of w) x → Safe w Whole (block_node levels inner sc b x w)
 unfolding block_node
 block_safe levels inner sc b x k here h i =
     then_safe _ _ (next_safe _ _ (begin_safe 1 levels sc here.order) (λ a u l j. numbers_safe 1 l.order)) (λ n u l j.
@@ -456,7 +472,8 @@ block_safe levels inner sc b x k here h i =
 present_integer : {s : Stores} (z : _) → IsPresent s (Int z) → is_lawful_tag (Int z) ≡ true
 present_integer z (an_integer h) = h
 
-items_safe : (inner : Sketch → Step Core) (sc : Scope) (n : ℕ) (vs : List Val) → MakesIn inner sc → {w : World} → Here w sc → ValuesAreThere (stores_of w) vs → Safe w ItemsWhole (items inner n vs w)
+items_safe : (inner : Sketch → Step Core) (sc : Scope) (n : ℕ) (vs : List Val) → MakesIn inner sc → {w : World} → Here w sc → ValuesAreThere (stores_of w) vs →
+    Safe w ItemsWhole (items inner n vs w)
 unfolding items
 items_safe inner sc n [] k here h = pure_safe _ here.order no_items_whole
 items_safe inner sc n (Int z ∷ vs) k here (one_more h hs) =
@@ -468,7 +485,8 @@ items_safe inner sc n (Sym x ∷ vs) k here (one_more h hs) =
 items_safe inner sc n (Ref o ∷ vs) k here (one_more h hs) =
     then_safe _ _ (k (form (Ref o)) _ here (a_form h)) (λ e u l i. then_safe _ _ (items_safe inner sc n vs k (here_on l here) (values_stay l.grown hs)) (λ is y m j. pure_safe _ m.order (step_whole {e = e} (parts_stay m.grown i) j)))
 
-tagbody_safe : (levels : ℕ) (inner : Inner) (sc : Scope) (vs : List Val) → MakesAt inner → {w : World} → Here w sc → ValuesAreThere (stores_of w) vs → Safe w Whole (tagbody_node levels inner sc vs w)
+tagbody_safe : (levels : ℕ) (inner : Inner) (sc : Scope) (vs : List Val) → MakesAt inner → {w : World} → Here w sc → ValuesAreThere (stores_of w) vs →
+    Safe w Whole (tagbody_node levels inner sc vs w)
 unfolding tagbody_node
 tagbody_safe levels inner sc vs k here h =
     then_safe _ _ (next_safe _ _ (begin_safe 1 levels sc here.order) (λ a u l j. numbers_safe (tags_in vs) l.order)) (λ n u l j.
@@ -480,28 +498,32 @@ tagbody_safe levels inner sc vs k here h =
 abbrev Expands : (ℕ → Scope → Val → Step Core) → Type 0
 Expands expand = (chain : ℕ) (sc : Scope) (v : Val) (w : World) → Here w sc → IsThere (stores_of w) v → Safe w Whole (expand chain sc v w)
 
-go_on_safe : (expand : ℕ → Scope → Val → Step Core) (chain : ℕ) (sc own : Scope) (v : Val) → Expands expand → {w : World} → Here w own → IsThere (stores_of w) v → Safe w Whole (go_on expand chain sc own v w)
+go_on_safe : (expand : ℕ → Scope → Val → Step Core) (chain : ℕ) (sc own : Scope) (v : Val) → Expands expand → {w : World} → Here w own → IsThere (stores_of w) v →
+    Safe w Whole (go_on expand chain sc own v w)
 unfolding go_on
 go_on_safe expand zero sc own v k here h = refuse_safe TooNested sc
 go_on_safe expand (suc chain) sc own v k here h = k chain own v _ here h
 
-followed_safe : (expand : ℕ → Scope → Val → Step Core) (make : Scope → Sketch → Step Core) (chain : ℕ) (sc : Scope) (p : Plan) → Expands expand → Makes make → {w : World} → Here w sc → PlanIsThere (stores_of w) p → Safe w Whole (followed expand make chain sc p w)
+followed_safe : (expand : ℕ → Scope → Val → Step Core) (make : Scope → Sketch → Step Core) (chain : ℕ) (sc : Scope) (p : Plan) → Expands expand → Makes make →
+    {w : World} → Here w sc → PlanIsThere (stores_of w) p → Safe w Whole (followed expand make chain sc p w)
 unfolding followed
 followed_safe expand make chain sc (instead v) k m here (another_form h) = go_on_safe expand chain sc sc v k here h
 followed_safe expand make chain sc (declared_around d v) k m {w} here (a_declared i h) = go_on_safe expand chain sc (declared_in d sc) v k (record { order = here.order; scope = declared_in_there (stores_of w) d sc i here.scope }) h
 followed_safe expand make chain sc (makes x) k m here (a_sketch h) = m sc x _ here h
 
-planned_safe : (expand : ℕ → Scope → Val → Step Core) (make : Scope → Sketch → Step Core) (chain : ℕ) (sc : Scope) (v : Val) → Expands expand → Makes make → {w : World} → Here w sc → IsThere (stores_of w) v → Safe w Whole (planned expand make chain sc v w)
+planned_safe : (expand : ℕ → Scope → Val → Step Core) (make : Scope → Sketch → Step Core) (chain : ℕ) (sc : Scope) (v : Val) → Expands expand → Makes make →
+    {w : World} → Here w sc → IsThere (stores_of w) v → Safe w Whole (planned expand make chain sc v w)
 unfolding planned
 planned_safe expand make chain sc v k m here h = then_safe _ _ (plan_safe sc v here h) (λ p u l i. followed_safe expand make chain sc p k m (here_on l here) i)
 
 mutual
   unfolding expand make
+
   pub expand_safe : (fuel levels chain : ℕ) (sc : Scope) (v : Val) {w : World} → Here w sc → IsThere (stores_of w) v → Safe w Whole (expand fuel levels chain sc v w)
   expand_safe zero levels chain sc v here h = refuse_safe TooNested sc
   expand_safe (suc fuel) levels chain sc v {w} here h =
       then_safe _ _ (look_safe {P = ScopeIsThere} (λ w. at_form w.heap v sc) here.order (at_form_there (stores_of w) v sc h here.scope)) (λ own u l i.
-      planned_safe (expand fuel levels) (make fuel levels) chain own v (λ c s x y here' h'. expand_safe fuel levels c s x here' h') (λ s x y here' h'. make_safe fuel levels s x here' h') (record { order = l.order; scope = i }) (value_stays l.grown v h))
+      planned_safe (expand fuel levels) (make fuel levels) chain own v (λ c s x y around fits. expand_safe fuel levels c s x around fits) (λ s x y around fits. make_safe fuel levels s x around fits) (record { order = l.order; scope = i }) (value_stays l.grown v h))
 
   make_safe : (fuel levels : ℕ) (sc : Scope) (x : Sketch) {w : World} → Here w sc → SketchIsThere (stores_of w) x → Safe w Whole (make fuel levels sc x w)
   make_safe zero levels sc x here h = refuse_safe TooNested sc
@@ -522,20 +544,20 @@ mutual
       then_safe _ _ (make_safe fuel (inside levels) sc z (here_on m (here_on l here)) (sketch_stays g n)) (λ c t o q.
       pure_safe _ o.order (choice_whole (stores_of t) sc.place a b c (place_stays (grown_on g o.grown) sc.place here.scope.place) (parts_stay (grown_on m.grown o.grown) i) (parts_stay o.grown j) q))))
   make_safe (suc fuel) levels sc (many m xs) here (a_many h hs) =
-      then_safe _ _ (next_safe _ _ (begin_safe 1 levels sc here.order) (λ a u l i. each_safe (make fuel (inside levels) sc) sc xs (λ x y here' h'. make_safe fuel (inside levels) sc x here' h') (here_on l here) (sketches_stay l.grown hs))) (λ es u l i.
+      then_safe _ _ (next_safe _ _ (begin_safe 1 levels sc here.order) (λ a u l i. each_safe (make fuel (inside levels) sc) sc xs (λ x y around fits. make_safe fuel (inside levels) sc x around fits) (here_on l here) (sketches_stay l.grown hs))) (λ es u l i.
       pure_safe _ l.order (many_whole (stores_of u) m sc.place es (place_stays l.grown sc.place here.scope.place) (many_stays l.grown m h) i))
   make_safe (suc fuel) levels sc (calling c x xs) here (a_calling h hs) =
       then_safe _ _ (next_safe _ _ (begin_safe 1 levels sc here.order) (λ a u l i. make_safe fuel (inside levels) sc x (here_on l here) (sketch_stays l.grown h))) (λ f u l i.
-      then_safe _ _ (each_safe (make fuel (inside levels) sc) sc xs (λ x y here' h'. make_safe fuel (inside levels) sc x here' h') (here_on l here) (sketches_stay l.grown hs)) (λ es y m j.
+      then_safe _ _ (each_safe (make fuel (inside levels) sc) sc xs (λ x y around fits. make_safe fuel (inside levels) sc x around fits) (here_on l here) (sketches_stay l.grown hs)) (λ es y m j.
       pure_safe _ m.order (calling_whole (stores_of y) c sc.place f es (place_stays (grown_on l.grown m.grown) sc.place here.scope.place) (parts_stay m.grown i) j)))
-  make_safe (suc fuel) levels sc (bind bs x) here (a_bind h k) = binding_safe levels (make fuel) sc bs x (λ n s y t here' h'. make_safe fuel n s y here' h') here h k
+  make_safe (suc fuel) levels sc (bind bs x) here (a_bind h k) = binding_safe levels (make fuel) sc bs x (λ n s y t around fits. make_safe fuel n s y around fits) here h k
   make_safe (suc fuel) levels sc (assign y v) {w} here (an_assign h k) =
       then_safe _ _ (look_safe {P = SketchIsThere} (set_variable sc y v) here.order (set_variable_there sc y v w here h k)) (λ x u l i. make_safe fuel levels sc x (here_on l here) i)
   make_safe (suc fuel) levels sc (function f) here (a_function h) =
-      then_safe _ _ (function_tree_safe levels (make fuel) sc f (λ n s y t here' h'. make_safe fuel n s y here' h') here h) (λ t u l i.
+      then_safe _ _ (function_tree_safe levels (make fuel) sc f (λ n s y t around fits. make_safe fuel n s y around fits) here h) (λ t u l i.
       pure_safe _ l.order (function_whole sc.place t (place_stays l.grown sc.place here.scope.place) i))
-  make_safe (suc fuel) levels sc (functions reach vs x) here (the_functions h k) = functions_safe levels (make fuel) sc reach vs x (λ n s y t here' h'. make_safe fuel n s y here' h') here h k
-  make_safe (suc fuel) levels sc (recursive x f) here (a_recursive h k) = recursive_safe levels (make fuel) sc x f (λ n s y t here' h'. make_safe fuel n s y here' h') here h k
-  make_safe (suc fuel) levels sc (block b x) here (a_block h k) = block_safe levels (make fuel) sc b x (λ n s y t here' h'. make_safe fuel n s y here' h') here h k
-  make_safe (suc fuel) levels sc (tagbody vs) here (a_tagbody h) = tagbody_safe levels (make fuel) sc vs (λ n s y t here' h'. make_safe fuel n s y here' h') here h
+  make_safe (suc fuel) levels sc (functions reach vs x) here (the_functions h k) = functions_safe levels (make fuel) sc reach vs x (λ n s y t around fits. make_safe fuel n s y around fits) here h k
+  make_safe (suc fuel) levels sc (recursive x f) here (a_recursive h k) = recursive_safe levels (make fuel) sc x f (λ n s y t around fits. make_safe fuel n s y around fits) here h k
+  make_safe (suc fuel) levels sc (block b x) here (a_block h k) = block_safe levels (make fuel) sc b x (λ n s y t around fits. make_safe fuel n s y around fits) here h k
+  make_safe (suc fuel) levels sc (tagbody vs) here (a_tagbody h) = tagbody_safe levels (make fuel) sc vs (λ n s y t around fits. make_safe fuel n s y around fits) here h
   make_safe (suc fuel) levels sc (within d x) {w} here (a_within h k) = make_safe fuel levels (declared_in d sc) x (record { order = here.order; scope = declared_in_there (stores_of w) d sc h here.scope }) k

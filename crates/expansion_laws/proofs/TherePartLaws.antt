@@ -120,4 +120,4 @@ module _ (p : Program) (s : Stores) (h : Holds p s) where
   present (Ref o) d q = object_present o _ refl d q
 
 pub data_are_values : DataAreValues
-data_are_values p s v h data' places = record { reached = λ u r. present p s h u (data' u (reaches p s h v u r)) (places u (reaches p s h v u r)) }
+data_are_values p s v h all_data places = record { reached = λ u r. present p s h u (all_data u (reaches p s h v u r)) (places u (reaches p s h v u r)) }

@@ -39,7 +39,8 @@ pub data WhereDeclared (s : Stores) : Reading → Type 0 where
   no_type : WhereDeclared s bad_type
   no_policy : WhereDeclared s bad_policy
 
-read_then : {s : Stores} {r : Reading} (f : Declared → Reading) → WhereDeclared s r → ((d : Declared) → DeclaredAreThere s d → WhereDeclared s (f d)) → WhereDeclared s (and_then f r)
+read_then : {s : Stores} {r : Reading} (f : Declared → Reading) → WhereDeclared s r → ((d : Declared) → DeclaredAreThere s d → WhereDeclared s (f d)) →
+    WhereDeclared s (and_then f r)
 read_then f (is_declared h) k = k _ h
 read_then f no_form k = no_form
 read_then f no_type k = no_type
@@ -58,7 +59,8 @@ module _ (s : Stores) where
   type_added t k d (Sym x) h i = is_declared (record { types = each_last _ h.types (symbol_of_there x i, k); specials = h.specials })
   type_added t k d (Ref o) h i = no_form
 
-  types_added : (d : Declared) (vs : List Val) (found : Option Spec) → DeclaredAreThere s d → ValuesAreThere s vs → Where (TypeIsThere s) found → WhereDeclared s (add_types d vs found)
+  types_added : (d : Declared) (vs : List Val) (found : Option Spec) → DeclaredAreThere s d → ValuesAreThere s vs → Where (TypeIsThere s) found →
+      WhereDeclared s (add_types d vs found)
   types_added d vs None h i w = no_type
   types_added d vs (Some t) h i (found_there k) = each_read (add_type t) (type_added t k) d vs h i
 
@@ -81,7 +83,8 @@ module _ (s : Stores) where
   either_read f false x y h k = k
 
   -- a specifier that begins with a symbol
-  symbol_read : (d : Declared) (x : SymId) (rest : List Val) → DeclaredAreThere s d → IsThere s (Sym x) → ValuesAreThere s rest → WhereDeclared s (by_subject s.heap s.table d (Sym x) rest (subject_named x))
+  symbol_read : (d : Declared) (x : SymId) (rest : List Val) → DeclaredAreThere s d → IsThere s (Sym x) → ValuesAreThere s rest →
+      WhereDeclared s (by_subject s.heap s.table d (Sym x) rest (subject_named x))
   unfolding subject_named
   symbol_read d x rest h k ks =
       either_read (by_subject s.heap s.table d (Sym x) rest) (is_same x at.TYPE) _ _ (typing_read d rest h ks)
@@ -96,7 +99,8 @@ module _ (s : Stores) where
   parts_read d (Sym x ∷ rest) h (one_more k ks) = symbol_read d x rest h k ks
   parts_read d (Ref o ∷ rest) h ks = typing_read d (Ref o ∷ rest) h ks
 
-  list_read : (f : List Val → Reading) (m : Option (List Val)) → Where (ValuesAreThere s) m → ((vs : List Val) → ValuesAreThere s vs → WhereDeclared s (f vs)) → WhereDeclared s (if_list f m)
+  list_read : (f : List Val → Reading) (m : Option (List Val)) → Where (ValuesAreThere s) m → ((vs : List Val) → ValuesAreThere s vs → WhereDeclared s (f vs)) →
+      WhereDeclared s (if_list f m)
   list_read f None w k = no_form
   list_read f (Some vs) (found_there h) k = k vs h
 
@@ -217,13 +221,14 @@ module _ (s : Stores) (sound : AreSound s) where
   auxiliary_at_there v h =
       where_if (is_symbol v) _ _ (auxiliary_there (v ∷ []) (one_more h no_more)) (where_then _ (elements_there s v h) auxiliary_there)
 
-  in_section : {A : Type 0} {Q : A → Type 0} (f : Val → Option A) (m : Option (List Val)) → ((v : Val) → IsThere s v → Where Q (f v)) → Where (ValuesAreThere s) m → Where (Each Q) (each_in f m)
+  in_section : {A : Type 0} {Q : A → Type 0} (f : Val → Option A) (m : Option (List Val)) → ((v : Val) → IsThere s v → Where Q (f v)) → Where (ValuesAreThere s) m →
+      Where (Each Q) (each_in f m)
   in_section f None k h = found_there no_more
   in_section f (Some vs) k (found_there h) = each_found f k h
 
   keys_there : (m : Option (List Val)) → Where (ValuesAreThere s) m → Where (Where (Each (DefaultIsThere s))) (keys_in s.heap s.table m)
   keys_there None h = found_there nothing_there
-  keys_there (Some vs) (found_there h) = 
+  keys_there (Some vs) (found_there h) =
       where_map Some (each_found _ (λ v i. default_at_there _ v (elim [ [] ↦ λ j. nothing_there | a ∷ [] ↦ λ j. nothing_there | a ∷ b ∷ xs ↦ λ j. default_there (a ∷ b ∷ xs) j ]) i) h) (λ ds k. found_there k)
 
   rest_there : (m : Option (List Val)) → Where (ValuesAreThere s) m → Where (Where (SymbolIsThere s)) (rest_in s.table m)

@@ -100,7 +100,8 @@ module _ (s : Stores) (t : Target) where
 -- ---- scopes that grow
 
 module _ (s : Stores) where
-  with_variable_there : (x : SymId) (t : Target) (cs : List Check) (sc : Scope) → ScopeIsThere s sc → TargetIsThere s t → Each (CheckIsThere s) cs → ScopeIsThere s (with_variable x t cs sc)
+  with_variable_there : (x : SymId) (t : Target) (cs : List Check) (sc : Scope) → ScopeIsThere s sc → TargetIsThere s t → Each (CheckIsThere s) cs →
+      ScopeIsThere s (with_variable x t cs sc)
   with_variable_there x t cs sc h k l = record { place = h.place; variables = each_last _ h.variables k; checks = each_append h.checks l }
 
   pub with_function_there : (x : SymId) (n : ℕ) (sc : Scope) → ScopeIsThere s sc → ScopeIsThere s (with_function x n sc)

@@ -84,7 +84,8 @@ mutual
 
   pub data FunctionIsThere (s : Stores) : Function → Type 0 where
     of_parts : {required : List Binder} {optional : List Optional'} {rest : Option Binder} {x : Sketch} →
-        Each (BinderIsThere s) required → Each (OptionalIsThere s) optional → Where (BinderIsThere s) rest → SketchIsThere s x → FunctionIsThere s (function_of required optional rest x)
+        Each (BinderIsThere s) required → Each (OptionalIsThere s) optional → Where (BinderIsThere s) rest → SketchIsThere s x →
+        FunctionIsThere s (function_of required optional rest x)
 
 -- ---- they stay
 

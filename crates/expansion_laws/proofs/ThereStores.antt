@@ -229,9 +229,10 @@ inner_there s v w h c = record { reached = λ u r. h.reached u (reached_on v w u
 module _ (s : Stores) where
   parts_there : (o : ObjId) → IsThere s (Ref o) → (x : Option Object) → slice_get s.heap (index_of o) ≡ x → Where (PairIsThere s) (cons_parts x)
   parts_there o h None e = nothing_there
-  parts_there o h (Some (Cons car cdr place)) e = found_there
-      ( inner_there s (Ref o) car h (subst (λ (xs : List Val). Contains xs car) (sym (ap values_within e)) (0, omega arith, refl))
-      , inner_there s (Ref o) cdr h (subst (λ (xs : List Val). Contains xs cdr) (sym (ap values_within e)) (1, omega arith, refl)) )
+  parts_there o h (Some (Cons car cdr place)) e = found_there (
+    inner_there s (Ref o) car h (subst (λ (xs : List Val). Contains xs car) (sym (ap values_within e)) (0, omega arith, refl)),
+    inner_there s (Ref o) cdr h (subst (λ (xs : List Val). Contains xs cdr) (sym (ap values_within e)) (1, omega arith, refl)),
+  )
   parts_there o h (Some (Vector items)) e = nothing_there
   parts_there o h (Some (Str letters)) e = nothing_there
   parts_there o h (Some (Fun lambda cells)) e = nothing_there

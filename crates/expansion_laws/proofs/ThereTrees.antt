@@ -129,6 +129,7 @@ module _ {A : Type 0} (s : Stores) (g : Core → List A) (h : FunctionText → L
     (nodes : (e : Core) → NodeIsThere s e → Each P (g e)) (texts : (f : FunctionText) → TextIsThere s f → Each P (h f)) where
   mutual
     unfolding gather gather_all gather_bindings gather_optionals gather_lambda gather_definitions gather_items
+
     pub gathered : (e : Core) → Whole s e → Each P (gather g h e)
     gathered (Quote p v) w = nodes _ (each_head w)
     gathered (Local p x) w = nodes _ (each_head w)

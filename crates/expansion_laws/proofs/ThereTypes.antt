@@ -25,7 +25,8 @@ pub where_first : {A : Type 0} {P : A → Type 0} (m n : Option A) → Where P m
 where_first (Some a) n h k = h
 where_first None n h k = k
 
-either : {A B : Type 0} {Q : B → Type 0} (f : A → Option B) (b : Bool) (x y : Option A) → Where Q (option_and_then f x) → Where Q (option_and_then f y) → Where Q (option_and_then f (if b then x else y))
+either : {A B : Type 0} {Q : B → Type 0} (f : A → Option B) (b : Bool) (x y : Option A) → Where Q (option_and_then f x) → Where Q (option_and_then f y) →
+    Where Q (option_and_then f (if b then x else y))
 either f true x y h k = h
 either f false x y h k = k
 
@@ -125,6 +126,7 @@ module _ (heap : List Object) (table : Table) where
 
   mutual
     unfolding parsed all_parsed
+
     parsed_lawful : (n : ℕ) (v : Val) → Where Parts (parsed n heap table v)
     parsed_lawful zero v = nothing_there
     parsed_lawful (suc n) v =

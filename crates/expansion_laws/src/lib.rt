@@ -3,4 +3,7 @@
 
 mod there;
 
-pub use there::{data_are_there, growth_keeps, macros_are_there, parts_are_there, scopes_are_there, there_are_data};
+pub use there::{
+    data_are_there, growth_keeps, macros_are_there, parts_are_there, scopes_are_there,
+    there_are_data,
+};
