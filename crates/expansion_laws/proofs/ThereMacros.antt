@@ -1,4 +1,5 @@
--- The form that a macro form gives is there: each row of the table of macros puts words, arguments and their parts together.
+-- The form that a macro form gives is there: each row of the table of macros puts words, arguments and their parts together. Words stand here
+-- by their numbers, each of which is that of a base name.
 use Rattle.std.specs.Prelude.{refl, ℕ, zero, suc, ◌+◌, ◌<◌, Bool, true, false, not, List, [], ◌∷◌, ◌++◌, length, map, reverse, find, Option, Some, None, if◌then◌else◌}
 use Rattle.std.specs.List.{list_all, flat_map}
 use Rattle.std.specs.Option.{option_map, option_and_then, is_some}
@@ -50,11 +51,11 @@ abbrev clause_by : (Val → Option (List Val)) → List Val → Option Clause
 clause_by read [] = None
 clause_by read (head ∷ body) = option_map (λ tests. clause head tests body) (read head)
 
--- (MEMBER KEY*)
+-- (MEMBER KEY*), MEMBER being symbol 31
 abbrev member_of_tests : List Val → Tree
 member_of_tests tests = list (form (Sym (symbol 31)) ∷ forms tests)
 
--- the type of a first test
+-- the type of a first test, or else the symbol of this number
 abbrev type_of_tests : ℕ → List Val → Tree
 type_of_tests n [] = form (Sym (symbol n))
 type_of_tests n (t ∷ ts) = form t
@@ -68,7 +69,7 @@ abbrev ended_by : (Val → List Val → Expansion) → List Val → Option Expan
 ended_by f [] = None
 ended_by f (end ∷ results) = Some (f end results)
 
--- a place that is changed by the function of this number
+-- a place that is changed by the function of this number; SETQ is symbol 105
 abbrev changed : ℕ → Val → Target → Expansion
 changed n d (variable v) = plain 0 (list (form (Sym (symbol 105)) ∷ form v ∷ list (form (Sym (symbol n)) ∷ form v ∷ form d ∷ []) ∷ []))
 changed n d (access op writer args) =

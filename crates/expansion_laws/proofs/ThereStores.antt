@@ -181,7 +181,7 @@ present_symbol x (a_symbol h) = h
 pub symbol_of_there : {s : Stores} (x : SymId) → IsThere s (Sym x) → SymbolIsThere s x
 symbol_of_there x h = present_symbol x (h.reached (Sym x) itself)
 
--- the number of a base name
+-- the number of a base name, of which there are 314
 abbrev pub IsBase : ℕ → Type 0
 IsBase n = nat_lt n 314 ≡ true
 
