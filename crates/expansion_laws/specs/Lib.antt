@@ -4,3 +4,5 @@ pub mod CheckedTrees
 pub mod Made
 pub mod Counts
 pub mod Places
+pub mod There
+pub mod ThereParts
