@@ -11,3 +11,5 @@ pub mod CheckedPlans
 pub mod CheckedNodes
 pub mod CheckedParts
 pub mod CheckedMaking
+pub mod TestedOnce
+pub mod TestedSteps

@@ -1,3 +1,4 @@
 -- The definitions of this crate.
 pub mod Planned
 pub mod CheckedTrees
+pub mod Tested

@@ -4,6 +4,8 @@
 
 mod checked_trees;
 mod plans;
+mod tested;
 
 pub use checked_trees::{symbols_have_functions, trees_are_checked};
 pub use plans::plans_are_derived;
+pub use tested::{declared_are_tested, top_has_no_lexical};
