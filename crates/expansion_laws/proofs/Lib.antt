@@ -13,3 +13,7 @@ pub mod CheckedParts
 pub mod CheckedMaking
 pub mod TestedOnce
 pub mod TestedSteps
+pub mod TestedNodes
+pub mod TestedScopes
+pub mod TestedRound
+pub mod TestedSketches
