@@ -17,3 +17,5 @@ pub mod TestedNodes
 pub mod TestedScopes
 pub mod TestedRound
 pub mod TestedSketches
+pub mod TestedParts
+pub mod TestedMaking
