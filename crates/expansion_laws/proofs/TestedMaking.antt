@@ -215,8 +215,5 @@ types_are_tested fuel levels chain sc v w after e first none count is =
           subst (λ (y : Parameter). All (Contains (types_round value)) y.types) (sym same) (all_round set.variable.types value set.types);
     }
 
-pub top_has_no_lexical : TopHasNoLexical
-top_has_no_lexical place is_fixed policy = All-nil (λ (p : SymId × Target). IsGlobal p.1)
-
 pub declarations_bind_no_lexical : DeclarationsBindNoLexical
 declarations_bind_no_lexical d sc none = declared_global d sc none

@@ -90,53 +90,47 @@ module _ (ps : List Parameter) where
 
   -- ---- with more proclaimed or declared
 
-  either_types : (s : SymId) (n : ℕ) (ds es : List Typed) (checks more : List Check) (t : Spec) → Grown ds es → Contains (types_of s ds ++ set_after n [] checks) t → Contains (types_of s es ++ set_after n [] (checks ++ more)) t
-  either_types s n ds es checks more t g h =
-      in_either (Contains-append_cases (types_of s ds) (set_after n [] checks) t h) (λ k. Contains-append_left (types_of s es) (set_after n [] (checks ++ more)) t (g s t k)) (λ k.
-      Contains-append_right (types_of s es) (set_after n [] (checks ++ more)) t (set_more n checks more t k))
-
-  entry_more : (ds es : List Typed) (checks more : List Check) → Grown ds es → (s : SymId) (t : Target) → Entry ds checks s t → Entry es (checks ++ more) s t
-  entry_more ds es checks more g s (Lexical n) h = record { variable = h.variable; there = h.there; number = h.number; types = λ t k. either_types s n ds es checks more t g (h.types t k) }
-  entry_more ds es checks more g s (Global t) h = tt
-
-  types_grown : (s : SymId) (n : ℕ) (ds es : List Typed) (checks : List Check) (t : Spec) → Grown ds es → Contains (types_of s ds ++ set_after n [] checks) t → Contains (types_of s es ++ set_after n [] checks) t
-  types_grown s n ds es checks t g h =
-      in_either (Contains-append_cases (types_of s ds) (set_after n [] checks) t h) (λ k. Contains-append_left (types_of s es) (set_after n [] checks) t (g s t k)) (λ k.
-      Contains-append_right (types_of s es) (set_after n [] checks) t k)
+  -- of another symbol, where each type is proclaimed of it or declared too
+  known_too : (ds es : List Typed) (checks others : List Check) (r s : SymId) (n : ℕ) → ((t : Spec) → Contains (types_of r ds) t → Contains (types_of s es) t) → ((t : Spec) → Contains (set_after n [] checks) t → Contains (set_after n [] others) t) → Known ps ds checks r n → Known ps es others s n
+  known_too ds es checks others r s n f g h = record {
+    variable = h.variable;
+    there = h.there;
+    number = h.number;
+    types = λ t k. in_either (Contains-append_cases (types_of r ds) (set_after n [] checks) t (h.types t k)) (λ l. Contains-append_left (types_of s es) (set_after n [] others) t (f t l)) (λ l.
+    Contains-append_right (types_of s es) (set_after n [] others) t (g t l));
+  }
 
   entry_grown : (ds es : List Typed) (checks : List Check) → Grown ds es → (s : SymId) (t : Target) → Entry ds checks s t → Entry es checks s t
-  entry_grown ds es checks g s (Lexical n) h = record { variable = h.variable; there = h.there; number = h.number; types = λ t k. types_grown s n ds es checks t g (h.types t k) }
+  entry_grown ds es checks g s (Lexical n) h = known_too ds es checks checks s s n (g s) (λ t k. k) h
   entry_grown ds es checks g s (Global t) h = tt
 
   pub holds_grown : (ds es : List Typed) (sc : Scope) → Grown ds es → Holds ds sc → Holds es sc
   holds_grown ds es sc g h =
       All-weaker (λ (p : SymId × Target). Entry ds sc.checks p.0 p.1) (λ (p : SymId × Target). Entry es sc.checks p.0 p.1) (λ (p : SymId × Target). entry_grown ds es sc.checks g p.0 p.1) sc.variables h
 
+  entry_more : (ds : List Typed) (checks more : List Check) (s : SymId) (t : Target) → Entry ds checks s t → Entry ds (checks ++ more) s t
+  entry_more ds checks more s (Lexical n) h = known_too ds ds checks (checks ++ more) s s n (λ t k. k) (set_more n checks more) h
+  entry_more ds checks more s (Global t) h = tt
+
   entries_more : (ds : List Typed) (checks more : List Check) (vs : List (SymId × Target)) → Entries ds checks vs → Entries ds (checks ++ more) vs
   entries_more ds checks more vs h =
-      All-weaker (λ (p : SymId × Target). Entry ds checks p.0 p.1) (λ (p : SymId × Target). Entry ds (checks ++ more) p.0 p.1) (λ (p : SymId × Target). entry_more ds ds checks more (λ s t k. k) p.0 p.1) vs h
+      All-weaker (λ (p : SymId × Target). Entry ds checks p.0 p.1) (λ (p : SymId × Target). Entry ds (checks ++ more) p.0 p.1) (λ (p : SymId × Target). entry_more ds checks more p.0 p.1) vs h
 
   holds_variable : (ds : List Typed) (s : SymId) (t : Target) (checks : List Check) (sc : Scope) → Entry ds (sc.checks ++ checks) s t → Holds ds sc → Holds ds (with_variable s t checks sc)
   holds_variable ds s t checks sc e h = All-push (λ (p : SymId × Target). Entry ds (sc.checks ++ checks) p.0 p.1) sc.variables (s, t) (entries_more ds sc.checks checks sc.variables h) e
 
   -- ---- what a name means
 
-  same_types : (s r : SymId) (ds : List Typed) (t : Spec) → same_symbol s r ≡ true → Contains (types_of r ds) t → Contains (types_of s ds) t
-  same_types s r ds t same h =
-      let is : number_of s ≡ number_of r = equal (number_of s) (number_of r) same in
-      subst (λ (k : ℕ). Contains (map (λ (d : Typed). d.spec) (filter (λ (d : Typed). k == number_of d.variable) ds)) t) (sym is) h
+  -- what is proclaimed of a symbol is so of each of the same number
+  same_types : (s r : SymId) (ds : List Typed) → same_symbol s r ≡ true → (t : Spec) → Contains (types_of r ds) t → Contains (types_of s ds) t
+  same_types s r ds same t h =
+      subst (λ (k : ℕ). Contains (map (λ (d : Typed). d.spec) (filter (λ (d : Typed). k == number_of d.variable) ds)) t) (sym (equal (number_of s) (number_of r) same)) h
     where
       equal : (m n : ℕ) → (m == n) ≡ true → m ≡ n
       equal m n e = grind (arith, nat_tests)
 
   entry_named : (ds : List Typed) (checks : List Check) (s r : SymId) (t : Target) → same_symbol s r ≡ true → Entry ds checks r t → Entry ds checks s t
-  entry_named ds checks s r (Lexical n) same h = record {
-    variable = h.variable;
-    there = h.there;
-    number = h.number;
-    types = λ t k. in_either (Contains-append_cases (types_of r ds) (set_after n [] checks) t (h.types t k)) (λ l. Contains-append_left (types_of s ds) (set_after n [] checks) t (same_types s r ds t same l)) (λ l.
-    Contains-append_right (types_of s ds) (set_after n [] checks) t l);
-  }
+  entry_named ds checks s r (Lexical n) same h = known_too ds ds checks checks r s n (same_types s r ds same) (λ t k. k) h
   entry_named ds checks s r (Global t) same h = tt
 
   module _ (ds : List Typed) (checks : List Check) (s : SymId) where

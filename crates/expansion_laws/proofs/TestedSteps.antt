@@ -61,14 +61,9 @@ pub keeps_does : {A : Type 0} (I : List Typed → Type 0) (P : A → Type 0) (m 
 keeps_does I P m h w i =
     weaker (λ x u. P x × (u.declaimed ≡ w.declaimed)) (λ x u. P x × I u.declaimed) (m w) (h w) (λ x u k. (k.0, subst I (sym k.1) i))
 
-module _ {A B : Type 0} (I J K : List Typed → Type 0) (P : A → Type 0) (Q : B → Type 0) where
-  pub then_does : (m : Step A) (k : A → Step B) → Does I J P m → ((x : A) → P x → Does J K Q (k x)) → Does I K Q (m >>= k)
-  unfolding ◌>>=◌
-  then_does m k h f w i = then_gives (λ (x : B) (u : World). Q x × K u.declaimed) (λ (x : A) (u : World). P x × J u.declaimed) (m w) k (h w i) (λ x u p. f x p.0 u p.1)
-
-  pub next_does : (m : Step A) (k : Step B) → Does I J P m → Does J K Q k → Does I K Q (m >> k)
-  unfolding ◌>>◌
-  next_does m k h g = then_does m (λ _. k) h (λ x p. g)
+pub then_does : {A B : Type 0} (I J K : List Typed → Type 0) (P : A → Type 0) (Q : B → Type 0) (m : Step A) (k : A → Step B) → Does I J P m → ((x : A) → P x → Does J K Q (k x)) → Does I K Q (m >>= k)
+unfolding ◌>>=◌
+then_does {A = A} {B = B} I J K P Q m k h f w i = then_gives (λ (x : B) (u : World). Q x × K u.declaimed) (λ (x : A) (u : World). P x × J u.declaimed) (m w) k (h w i) (λ x u p. f x p.0 u p.1)
 
 -- after a step that keeps what is proclaimed
 pub after_does : {A B : Type 0} (I K : List Typed → Type 0) (Q : B → Type 0) (m : Step A) (k : A → Step B) → Keeps Anything m → ((x : A) → Does I K Q (k x)) → Does I K Q (m >>= k)
