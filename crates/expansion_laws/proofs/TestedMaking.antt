@@ -1,7 +1,7 @@
 -- Expansion tests the types that are declared of variables.
-use Rattle.std.specs.Prelude.{◌≡◌, ℕ, zero, suc, List, [], ◌∷◌, ◌++◌, All, Contains}
-use Rattle.std.proofs.Common.{refl, sym, subst}
-use Rattle.std.proofs.lemmas.List.Elements.{All-nil, All-weaker, All-contains, All-contains_itself, Contains-append_left, Contains-append_right, Contains-append_cases}
+use Rattle.std.specs.Prelude.{◌≡◌, ℕ, zero, suc, List, [], ◌++◌, All, Contains}
+use Rattle.std.proofs.Common.{sym, subst}
+use Rattle.std.proofs.lemmas.List.Elements.{All-weaker, All-contains, All-contains_itself, Contains-append_left, Contains-append_right, Contains-append_cases}
 use Rattle.lisp_base.specs.declared.values.SymId.{SymId}
 use Rattle.lisp_base.specs.declared.values.Val.{Val}
 use Rattle.lisp_base.specs.Spec.{Spec}
@@ -20,13 +20,13 @@ use Rattle.expansion.specs.Scopes.{Scope, types_set, variable_at, declared_in}
 use Rattle.expansion.specs.Steps.{World, Step, inside, most_chain}
 use Rattle.expansion.specs.Sketches.{Unary, SettingLocal, Sketches, Sketch, form, leaf, one, two, choice, many, calling, bind, assign, function, functions, recursive, block, tagbody, within, leaf_node, unary_node, unary_count, binary_node, many_node, calling_node, Function, Plan, instead, declared_around, makes, checked as tested_for}
 use Rattle.expansion.specs.Bindings.{types_of}
-use Rattle.expansion.specs.Forms.{proclaimed, set_target, set_variable, plan_of}
+use Rattle.expansion.specs.Forms.{proclaimed, set_target, set_variable}
 use Rattle.expansion.specs.Expanding.{go_on, followed, planned, expand, make}
-use Rattle.expansion_laws.specs.Tested.{TypesAreTested, TopHasNoLexical, DeclarationsBindNoLexical, IsGlobal}
+use Rattle.expansion_laws.specs.Tested.{TypesAreTested, DeclarationsBindNoLexical}
 use Rattle.expansion_laws.proofs.Giving.{given_has}
 use Rattle.expansion_laws.proofs.TestedOnce.{in_either, one_variable}
 use Rattle.expansion_laws.proofs.TestedSteps.{Grown, grown_same, look_does, both_do, Since, begin_keeps}
-use Rattle.expansion_laws.proofs.TestedNodes.{SetsNoLocal, Rounds, BoundTested, SetTested, Tests, Within, Sound, leaf_sound, unary_sound, set_sound, binary_sound, choice_sound, many_sound, calling_sound, function_sound}
+use Rattle.expansion_laws.proofs.TestedNodes.{SetsNoLocal, Rounds, BoundTested, SetTested, Tests, leaf_sound, unary_sound, set_sound, binary_sound, choice_sound, many_sound, calling_sound, function_sound}
 use Rattle.expansion_laws.proofs.TestedScopes.{Known, Entry, Holds, set_after, variable_known, holds_at, holds_declared, holds_top, declared_global}
 use Rattle.expansion_laws.proofs.TestedRound.{checked_round}
 use Rattle.expansion_laws.proofs.TestedSketches.{Plain, AllPlain, PlainFunction, PlainPlan, tested_plain, set_global_plain, plan_plain}
@@ -54,7 +54,7 @@ module _ (ps : List Parameter) where
     there = k.there;
     number = k.number;
     types = λ t h. in_either (Contains-append_cases (types_of s ds) (set_after n [] sc.checks) t (k.types t h)) (λ l. Contains-append_left (types_of s w.declaimed) (set_after n [] sc.checks) t (g s t l)) (λ l.
-    Contains-append_right (types_of s w.declaimed) (set_after n [] sc.checks) t l);
+        Contains-append_right (types_of s w.declaimed) (set_after n [] sc.checks) t l);
   }
 
   assigned : (ds : List Typed) (sc : Scope) (s : SymId) (v : Val) (w : World) → Grown ds w.declaimed → (t : Target) → (Holds ps ds sc → Entry ps ds sc.checks s t) → Assigned ps ds sc v (set_target sc t s (form v) w)

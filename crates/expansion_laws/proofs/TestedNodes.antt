@@ -1,5 +1,5 @@
 -- Nodes in which the types that are declared of variables are tested.
-use Rattle.std.specs.Prelude.{◌≡◌, ℕ, List, [], ◌∷◌, ◌++◌, All, Contains, Option, None}
+use Rattle.std.specs.Prelude.{ℕ, List, [], ◌++◌, All, Contains, Option, None}
 use Rattle.std.proofs.lemmas.List.Elements.{All-nil, All-cons, All-append, Contains-append_left, Contains-append_right}
 use Rattle.lisp_base.specs.declared.values.Place.{Place}
 use Rattle.lisp_base.specs.declared.values.Place.TheVariants.{File}

@@ -1,6 +1,6 @@
 -- The parts of nodes are tested where what makes a tree of a part gives tested trees.
 use Rattle.std.specs.Prelude.{◌≡◌, ℕ, suc, ◌+◌, Bool, true, false, if◌then◌else◌, List, [], ◌∷◌, ◌++◌, length, All, Contains, Option, Some, None}
-use Rattle.std.proofs.Common.{refl, sym, ap, subst}
+use Rattle.std.proofs.Common.{refl, ap, subst}
 use Rattle.std.proofs.lemmas.List.Elements.{All-nil, All-cons, All-head, All-tail, Contains-append_left, Contains-push}
 use Rattle.lisp_base.specs.declared.values.SymId.{SymId}
 use Rattle.lisp_base.specs.declared.values.Val.{Val}
@@ -187,8 +187,8 @@ module _ (ps : List Parameter) where
         since_pure ds (GoodDefaults ds sc) (optional o.bound.1 e (parameter_some o.supplied) found.0, found.1) (λ within holds.
         let after : Within ps all = within_right ps (o.bound.1 ∷ []) all within in
         let here : Holds ps ds own =
-            holds_some ps ds o.supplied (with_bound sc o.bound) one.1 (within_left ps flag (optional_parameters found.0) after)
-            (holds_bound ps ds o.bound sc one.0 (within o.bound.1 (Contains-append_left (o.bound.1 ∷ []) all o.bound.1 (Contains-push [] o.bound.1))) holds) in
+        holds_some ps ds o.supplied (with_bound sc o.bound) one.1 (within_left ps flag (optional_parameters found.0) after)
+        (holds_bound ps ds o.bound sc one.0 (within o.bound.1 (Contains-append_left (o.bound.1 ∷ []) all o.bound.1 (Contains-push [] o.bound.1))) holds) in
         let rest : SoundOptionals ps found.0 × Holds ps ds found.1 = k (within_right ps flag (optional_parameters found.0) after) here in
         (optional_sound ps o.bound.1 e (parameter_some o.supplied) found.0 (h holds) rest.0, rest.1))))
 
@@ -199,8 +199,8 @@ module _ (ps : List Parameter) where
         let second : List Parameter = optional_parameters found.0 in
         let third : List Parameter = if_given (parameter_some r) in
         let given : Within ps ((first ++ second) ++ third) → SoundOptionals ps found.0 × Holds ps es found.1 =
-            λ within. h (within_right ps first second (within_left ps (first ++ second) third within))
-            (holds_all ps es xs sc fine (within_left ps first second (within_left ps (first ++ second) third within)) (holds_grown ps ds es sc g holds)) in
+        λ within. h (within_right ps first second (within_left ps (first ++ second) third within))
+        (holds_all ps es xs sc fine (within_left ps first second (within_left ps (first ++ second) third within)) (holds_grown ps ds es sc g holds)) in
         lambda_sound ps k first found.0 (parameter_some r) e (λ within. (given within).0) (λ within.
         body (holds_some ps es r found.1 rest_fine (within_right ps (first ++ second) third within) (given within).1))
 

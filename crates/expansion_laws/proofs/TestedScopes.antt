@@ -17,7 +17,7 @@ use Rattle.core_form.specs.Tree.{Parameter}
 use Rattle.core_form.specs.Facts.{lexical_number, parameter_number, if_given}
 use Rattle.expansion.specs.declared.heads.Target.{Target}
 use Rattle.expansion.specs.declared.heads.Target.TheVariants.{Lexical, Global}
-use Rattle.expansion.specs.Scopes.{Scope, Check, of_binding, of_uses, rebound, same_target, same_symbol, value_or, at_form, later, last_fit, second, named, and_set, variable_at, with_variable, with_function, with_block, with_tag, with_special, with_type, declared_in}
+use Rattle.expansion.specs.Scopes.{Scope, Check, of_binding, of_uses, rebound, same_target, same_symbol, value_or, at_form, later, last_fit, second, named, and_set, variable_at, with_variable, with_tag, with_special, with_type, declared_in}
 use Rattle.expansion.specs.Bindings.{types_of}
 use Rattle.expansion.specs.Forms.{is_tag}
 use Rattle.expansion.specs.Expanding.{Bound, target_of, new_checks, with_bound, with_all, with_some, parameters, parameter_some, definition_name, with_named, with_definitions, with_tags}
@@ -26,7 +26,7 @@ use Rattle.expansion_laws.proofs.Among.{same_number}
 use Rattle.expansion_laws.proofs.Holding.{OnFound}
 use Rattle.expansion_laws.proofs.TestedOnce.{nothing_in, in_either, first_or_later}
 use Rattle.expansion_laws.proofs.TestedSteps.{Grown}
-use Rattle.expansion_laws.proofs.TestedNodes.{Within, within_left, within_right}
+use Rattle.expansion_laws.proofs.TestedNodes.{Within, within_right}
 
 -- ---- types for each value that a variable is set to
 
@@ -97,7 +97,7 @@ module _ (ps : List Parameter) where
     there = h.there;
     number = h.number;
     types = λ t k. in_either (Contains-append_cases (types_of r ds) (set_after n [] checks) t (h.types t k)) (λ l. Contains-append_left (types_of s es) (set_after n [] others) t (f t l)) (λ l.
-    Contains-append_right (types_of s es) (set_after n [] others) t (g t l));
+        Contains-append_right (types_of s es) (set_after n [] others) t (g t l));
   }
 
   entry_grown : (ds es : List Typed) (checks : List Check) → Grown ds es → (s : SymId) (t : Target) → Entry ds checks s t → Entry es checks s t
@@ -182,7 +182,7 @@ module _ (ps : List Parameter) where
         there = there;
         number = subst (λ (v : Variable). Contains (lexical_number v) n) (sym is) (Contains-push [] n);
         types = λ t k. in_either (Contains-append_cases (types_of b.0.variable ds) b.0.types t (fine t k)) (λ l. Contains-append_left (types_of b.0.variable ds) (set_after n [] (checks ++ more)) t l) (λ l.
-        Contains-append_right (types_of b.0.variable ds) (set_after n [] (checks ++ more)) t (set_joined n checks more t (set_bound n (set_after n [] checks) b.0.types t l)));
+            Contains-append_right (types_of b.0.variable ds) (set_after n [] (checks ++ more)) t (set_joined n checks more t (set_bound n (set_after n [] checks) b.0.types t l)));
       }
   entry_bound ds b checks (variable.Special s) is fine there = tt
 

@@ -1,15 +1,14 @@
 -- Sketches that set no lexical variable but by a form that is a variable's new value, and what is proclaimed by what is to be done with a form.
-use Rattle.std.specs.Prelude.{◌≡◌, ℕ, List, [], ◌∷◌, ◌++◌, Option, Some, None}
+use Rattle.std.specs.Prelude.{◌≡◌, List, [], ◌∷◌, ◌++◌, Option, Some, None}
 use Rattle.std.specs.Option.{option_map, option_and_then}
 use Rattle.std.proofs.Common.{refl, subst, sym}
 use Rattle.lisp_base.specs.declared.primitives.Primitive.{Primitive as Operation}
-use Rattle.lisp_base.specs.declared.primitives.Primitive.TheVariants as q
 use Rattle.lisp_base.specs.declared.values.SymId.{SymId}
 use Rattle.lisp_base.specs.declared.values.Val.{Val}
 use Rattle.lisp_base.specs.Spec.{Spec}
 use Rattle.lisp_base.specs.Tables.{Table}
 use Rattle.declarations.specs.Declarations.{Typed, Declared}
-use Rattle.lambda_lists.specs.LambdaLists.{LambdaList, KeyForms}
+use Rattle.lambda_lists.specs.LambdaLists.{LambdaList}
 use Rattle.expansion.specs.declared.heads.Target.{Target}
 use Rattle.expansion.specs.declared.heads.Target.TheVariants.{Lexical, Global}
 use Rattle.expansion.specs.declared.operator.Operator.{Operator}
