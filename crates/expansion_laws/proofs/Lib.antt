@@ -37,3 +37,11 @@ pub mod ThereDefinitions
 pub mod ThereMaking
 pub mod ThereLaws
 pub mod TherePartLaws
+pub mod TestedOnce
+pub mod TestedSteps
+pub mod TestedNodes
+pub mod TestedScopes
+pub mod TestedRound
+pub mod TestedSketches
+pub mod TestedParts
+pub mod TestedMaking

@@ -6,3 +6,4 @@ pub mod Counts
 pub mod Places
 pub mod There
 pub mod ThereParts
+pub mod Tested

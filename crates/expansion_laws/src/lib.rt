@@ -5,11 +5,13 @@
 mod checked_trees;
 mod made_trees;
 mod plans;
+mod tested;
 mod there;
 
 pub use checked_trees::{symbols_have_functions, trees_are_checked};
 pub use made_trees::{trees_are_counted, trees_are_made, trees_stay_in_place};
 pub use plans::plans_are_derived;
+pub use tested::{declared_are_tested, top_has_no_lexical};
 pub use there::{
     data_are_there, growth_keeps, macros_are_there, parts_are_there, scopes_are_there,
     there_are_data,
