@@ -45,3 +45,5 @@ pub mod TestedRound
 pub mod TestedSketches
 pub mod TestedParts
 pub mod TestedMaking
+pub mod LawfulTops
+pub mod LawfulTrees

@@ -75,7 +75,7 @@ module _ (p : Program) (s : Stores) (h : Holds p s) where
   same_values (Sym x) = refl
   same_values (Ref o) = ap lawful.values_within (object_held (index_of o)) ∙ same_within (slice_get s.heap (index_of o))
 
-  reached_there : (v u : Val) → Reaches p v u → Reached s.heap v u
+  pub reached_there : (v u : Val) → Reaches p v u → Reached s.heap v u
   reached_there v u lawful.itself = itself
   reached_there v x (lawful.within u w r c) = within u w (reached_there v u r) (subst (λ (xs : List Val). Contains xs w) (same_values u) c)
 

@@ -39,7 +39,7 @@ grown_on {s} {t} {u} g h = record {
 longer : {A : Type 0} (xs ys more : List A) (n : ℕ) → ys ≡ xs ++ more → n < length xs → n < length ys
 longer xs ys more n e lt = rw e (simp length-append (omega (arith, lt)))
 
-get_kept : {A : Type 0} (xs ys : List A) (n : ℕ) (x : A) → slice_get xs n ≡ Some x → slice_get (xs ++ ys) n ≡ Some x
+pub get_kept : {A : Type 0} (xs ys : List A) (n : ℕ) (x : A) → slice_get xs n ≡ Some x → slice_get (xs ++ ys) n ≡ Some x
 get_kept [] ys n x e = absurd (some_is_not_none x (sym e))
 get_kept (y ∷ xs) ys zero x e = e
 get_kept (y ∷ xs) ys (suc n) x e = get_kept xs ys n x e
@@ -251,7 +251,7 @@ module _ (s : Stores) where
   place_present (Fun lambda cells) h = tt
   place_present (Cell v) h = tt
 
-  present_place : (v : Val) → IsPresent s v → PlaceMayBe s (place_at s.heap v)
+  pub present_place : (v : Val) → IsPresent s v → PlaceMayBe s (place_at s.heap v)
   present_place v (an_integer h) = tt
   present_place v (a_character h) = tt
   present_place v (a_symbol h) = tt

@@ -7,3 +7,4 @@ pub mod Places
 pub mod There
 pub mod ThereParts
 pub mod Tested
+pub mod LawfulTrees

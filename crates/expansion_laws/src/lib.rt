@@ -3,12 +3,16 @@
 #![tactic(auto)]
 
 mod checked_trees;
+mod lawful_trees;
 mod made_trees;
 mod plans;
 mod tested;
 mod there;
 
 pub use checked_trees::{symbols_have_functions, trees_are_checked};
+pub use lawful_trees::{
+    lawful_trees_stay_lawful, places_are_there, tops_have_scopes, trees_are_lawful,
+};
 pub use made_trees::{trees_are_counted, trees_are_made, trees_stay_in_place};
 pub use plans::plans_are_derived;
 pub use tested::{declared_are_tested, top_has_no_lexical};
