@@ -2,18 +2,16 @@
 use Rattle.std.specs.Prelude.{◌≡◌, refl, ℕ, true, List, [], ◌∷◌, All, fold}
 use Rattle.std.proofs.Common.{sym, subst}
 use Rattle.std.proofs.lemmas.List.Elements.{All-nil, All-cons, All-head, All-push, All-weaker}
-use Rattle.lisp_base.specs.declared.values.Place.{Place}
 use Rattle.lisp_base.specs.declared.values.Place.TheVariants as places
 use Rattle.lisp_base.specs.declared.values.SymId.{SymId}
 use Rattle.lisp_base.specs.declared.values.Val.{Val}
 use Rattle.core_form.specs.Facts.{has_number}
-use Rattle.core_form.specs.Checked as checked
 use Rattle.declarations.specs.Declarations.{Typed}
 use Rattle.expansion.specs.declared.heads.Target.{Target}
 use Rattle.expansion.specs.declared.heads.Target.TheVariants.{Lexical, Global}
-use Rattle.expansion.specs.Scopes.{Scope, Check, at_form, with_special, with_type, declared_in}
+use Rattle.expansion.specs.Scopes.{Scope, at_form, with_special, with_type, declared_in}
 use Rattle.expansion_laws.specs.CheckedTrees.{Means}
-use Rattle.expansion_laws.specs.There.{Stores, SymbolIsThere, NameIsThere, CheckIsThere}
+use Rattle.expansion_laws.specs.There.{SymbolIsThere, NameIsThere, CheckIsThere}
 use Rattle.expansion_laws.specs.Tested.{IsGlobal}
 use Rattle.expansion_laws.specs.LawfulTrees.{IsAtTop, TopsAreEmpty, TopsAreSound, FormsStayAtTop, DeclarationsStayAtTop, PoliciesStayAtTop, TopsAreBound, PlacesHaveSymbols, SymbolsHavePlaces, ReachedPlacesAreThere}
 use Rattle.expansion_laws.proofs.ThereStores.{present_place}

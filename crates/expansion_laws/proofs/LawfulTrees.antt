@@ -8,10 +8,7 @@ use Rattle.lisp_base.specs.declared.values.SymId.{SymId}
 use Rattle.lisp_base.specs.declared.values.Val.{Val}
 use Rattle.lisp_base.specs.declared.values.Val.TheVariants.{Int, Char, Sym, Ref}
 use Rattle.lisp_base.specs.Sort.{number_of, index_of}
-use Rattle.lisp_base.specs.Spec.{Spec}
-use Rattle.lisp_base.specs.Lawful.{IsLawful as IsLawfulType}
-use Rattle.lisp_base.specs.Tables.{Table}
-use Rattle.core_form.specs.Tree.{Core, Top}
+use Rattle.core_form.specs.Tree.{Core}
 use Rattle.core_form.specs.State.{Object, Pair, Vector, Str, Fun, Cell}
 use Rattle.core_form.specs.Facts.{functions_in}
 use Rattle.core_form.specs.Checked.{no_scope, TopIsBuilt}
@@ -21,7 +18,7 @@ use Rattle.expansion.specs.Scopes.{Scope}
 use Rattle.expansion.specs.Steps.{World, gives}
 use Rattle.expansion.specs.Expanding.{expand}
 use Rattle.expansion_laws.specs.Counts.{IsCounted}
-use Rattle.expansion_laws.specs.There.{Stores, stores, stores_of, Grown, SymbolIsThere, PlaceIsThere, Holds, HasData, IsExpanded}
+use Rattle.expansion_laws.specs.There.{Stores, stores, stores_of, Grown, Holds, HasData, IsExpanded}
 use Rattle.expansion_laws.specs.LawfulTrees.{top_of, IsCountedAnew, IsAtTop, TreesAreLawful, LawfulTreesStay, ProgramsHold}
 use Rattle.expansion_laws.proofs.Counting.{trees_are_counted}
 use Rattle.expansion_laws.proofs.CheckedMaking.{trees_are_checked, symbols_have_functions}
