@@ -47,3 +47,8 @@ pub mod TestedParts
 pub mod TestedMaking
 pub mod LawfulTops
 pub mod LawfulTrees
+pub mod DefinitionHeaps
+pub mod DefinitionReading
+pub mod DefinitionRefusals
+pub mod DefinitionBodies
+pub mod DefinitionForms

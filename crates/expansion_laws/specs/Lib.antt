@@ -8,3 +8,4 @@ pub mod There
 pub mod ThereParts
 pub mod Tested
 pub mod LawfulTrees
+pub mod Definitions

@@ -3,6 +3,7 @@
 #![tactic(auto)]
 
 mod checked_trees;
+mod definitions;
 mod lawful_trees;
 mod made_trees;
 mod plans;
@@ -10,6 +11,7 @@ mod tested;
 mod there;
 
 pub use checked_trees::{symbols_have_functions, trees_are_checked};
+pub use definitions::forms_define;
 pub use lawful_trees::{
     lawful_trees_stay_lawful, places_are_there, tops_have_scopes, trees_are_lawful,
 };
