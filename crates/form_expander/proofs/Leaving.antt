@@ -1,5 +1,5 @@
 -- RETURN-FROM, by how many arguments it has.
-use Rattle.std.specs.Prelude.{◌≡◌, ◌<◌, ◌≤◌, List, [], ◌∷◌, length, Result}
+use Rattle.std.specs.Prelude.{◌<◌, ◌≤◌, List, [], ◌∷◌, length, Result}
 use Rattle.std.proofs.Common.{get_or, arith}
 use Rattle.lisp_base.specs.declared.values.Val.{Val}
 use Rattle.lisp_base.specs.Sort.{nil}

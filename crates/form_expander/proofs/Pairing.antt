@@ -1,6 +1,6 @@
 -- Variables beside forms, as many of each.
 use Rattle.std.specs.Prelude.{List, suc}
-use Rattle.std.proofs.Common.{◌≡◌, ℕ, [], ◌∷◌, Option, Some, None, length, refl, ap, arith}
+use Rattle.std.proofs.Common.{◌≡◌, [], ◌∷◌, Some, None, length, refl, ap, arith}
 use Rattle.std.specs.List.{zip}
 use Rattle.std.specs.Option.{option_map}
 use Rattle.lisp_base.specs.declared.values.SymId.{SymId}

@@ -1,5 +1,5 @@
 -- Checks after checks, and parts one after another.
-use Rattle.std.proofs.Common.{◌≡◌, ◌<◌, ◌≤◌, ℕ, List, [], ◌∷◌, ◌++◌, length, map, refl, sym, ap, ◌∙◌, arith}
+use Rattle.std.proofs.Common.{◌≡◌, ◌<◌, ◌≤◌, List, [], ◌∷◌, ◌++◌, length, map, refl, ap, arith}
 use Rattle.std.proofs.lemmas.List.{length-append}
 use Rattle.lisp_base.specs.Spec.{Spec}
 use Rattle.expansion.specs.declared.heads.Many.TheVariants.{Sequence}

@@ -179,12 +179,7 @@ fn symbol_plan(world: &World, alloc: Global, scope: &Scope, name: SymId) -> Resu
 
 /// What is to be done with a list or another object.
 #[tactic(auto, unfolding(crate::specs::Opened::plans))]
-fn object_plan(
-    world: &mut World,
-    alloc: Global,
-    scope: &Scope,
-    form: Val,
-) -> Result<Plan, Fault>
+fn object_plan(world: &mut World, alloc: Global, scope: &Scope, form: Val) -> Result<Plan, Fault>
     ensures follows { Follows plan_from (plain.list_plan (scope_of scope.now) form (cons_at world.old.heap form) (world_of world.old)) result (world_of world.new) }
     ensures keeps { Keeps world.old world.new }
 {

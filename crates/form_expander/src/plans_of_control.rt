@@ -157,12 +157,7 @@ pub(crate) fn block_plan(alloc: Global, scope: &Scope, arguments: &[Val]) -> Res
 
 /// Leaves the block of a name with the value of a form.
 #[tactic(auto, unfolding(crate::specs::Opened::plans))]
-fn return_plan(
-    alloc: Global,
-    scope: &Scope,
-    name: Val,
-    value: Val,
-) -> Result<Plan, Fault>
+fn return_plan(alloc: Global, scope: &Scope, name: Val, value: Val) -> Result<Plan, Fault>
     ensures { (w : WorldOf) → Follows plan_from (and_then (expect (scope_of scope.now) (plain.symbol_in name) w) (λ s. plain.return_plan (scope_of scope.now) s value)) result w }
 {
     let Some(name) = symbol_in(name) else {
