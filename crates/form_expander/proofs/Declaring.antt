@@ -1,11 +1,11 @@
 -- What follows declarations that are read, and those that are refused.
 use Rattle.std.specs.Prelude.{◌≡◌}
 use Rattle.std.proofs.Common.{ap, sym, subst}
-use Rattle.declarations.specs.Declarations.{Declared, Reading, declared, bad_form, bad_type, bad_policy, Refuses as IsRefused}
+use Rattle.declarations.specs.Declarations.{Declared, Reading, declared, Refuses as IsRefused}
 use Rattle.declarations.specs.declared.fault.DeclarationFault.{DeclarationFault}
 use Rattle.declarations.specs.declared.fault.DeclarationFault.TheVariants.{BadForm, BadType, BadPolicy, Memory}
 use Rattle.expansion.specs.Scopes.{Scope}
-use Rattle.expansion.specs.Steps.{World, Answer, gives, refuse, pure}
+use Rattle.expansion.specs.Steps.{World, gives, refuse, pure}
 use Rattle.expansion.specs.Bindings.{declared_or}
 use Rattle.form_expander.specs.declared.fault.Fault.{Fault}
 use Rattle.form_expander.specs.Contained.{fault_at}

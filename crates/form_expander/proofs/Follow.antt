@@ -1,7 +1,7 @@
 -- What follows a step that gave a result, and one that was refused.
 use Rattle.std.specs.Prelude.{◌≡◌, Result}
 use Rattle.std.proofs.Common.{ap, sym, subst}
-use Rattle.expansion.specs.Steps.{World, Answer, gives, refused, Step, and_then}
+use Rattle.expansion.specs.Steps.{World, Answer, gives, Step, and_then}
 use Rattle.form_expander.specs.declared.fault.Fault.{Fault}
 use Rattle.form_expander.specs.declared.fault.Fault.TheVariants as fault
 use Rattle.form_expander.specs.Outcomes.{Refuses, Follows}

@@ -9,3 +9,8 @@ pub mod Declaring
 pub mod Follow
 pub mod Nested
 pub mod Others
+pub mod Keeping
+pub mod Sketching
+pub mod Pairing
+pub mod Setting
+pub mod Leaving

@@ -5,3 +5,6 @@ pub mod Marks
 pub mod Besides
 pub mod Contained
 pub mod Stepping
+pub mod Keeping
+pub mod Opened
+pub mod Calling
