@@ -15,6 +15,3 @@ mod templates;
 pub use emit::program_image;
 pub use fault::CompileFault;
 pub use source::compile;
-
-#[cfg(test)]
-mod tests;

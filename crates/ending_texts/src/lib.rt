@@ -7,6 +7,3 @@ mod values;
 
 pub use errors::error_text;
 pub use values::value_text;
-
-#[cfg(test)]
-mod tests;

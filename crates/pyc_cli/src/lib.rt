@@ -13,11 +13,7 @@ mod options;
 mod outcome;
 mod running;
 mod status;
-#[cfg(test)]
-mod tests;
 mod top;
-#[cfg(test)]
-mod word_tests;
 mod words;
 
 pub use command::{Command, Verb};

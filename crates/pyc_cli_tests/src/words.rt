@@ -1,4 +1,4 @@
-use super::*;
+use pyc_cli::{Command, Verb, WordFault, parse_words};
 use std::alloc::Global;
 use std::process::Abort;
 use std::test::Fail;

@@ -1,5 +1,5 @@
-use crate::{error_text, value_text};
 use debug_info::{Debug, SitePlace, SiteRow};
+use ending_texts::{error_text, value_text};
 use image::read;
 use rv_machine::machine::Machine;
 use rv_machine::sizes::Sizes;

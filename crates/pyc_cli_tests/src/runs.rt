@@ -1,7 +1,5 @@
-use super::*;
-use crate::line::put_line;
-use crate::top::perform;
 use outside_io::{Calls, MemSink, MemSource, MemStore, Source, Took};
+use pyc_cli::{Status, tool};
 use std::alloc::Global;
 use std::process::Abort;
 use std::test::Fail;
@@ -237,49 +235,23 @@ const NOTHING: [u8; 4] = [0; 4];
 /// `addi x17, x0, 5` and `ecall`: the run ends since the heap is full.
 const HEAP: [u8; 8] = [0x93, 0x08, 0x50, 0, 0x73, 0, 0, 0];
 
-/// Performs a command on the image that a store holds at `in`, and puts its last line.
-fn perform_on(
-    alloc: Global,
-    verb: Verb,
-    steps: u64,
-    image: &[u8],
-    input: &[u8],
-) -> Result<Leaves, Fail> {
-    let mut files = MemStore::new(alloc, Vec::new(alloc));
-    files.add("in", image)?;
-    let mut input = MemSource::new(input.to_vec(alloc)?, 4096, Vec::new(alloc));
-    let mut out = MemSink::new(alloc, 2, Vec::new(alloc));
-    let mut err = MemSink::new(alloc, 3, Vec::new(alloc));
-    let command = Command {
-        verb,
-        first: String::from_str(alloc, "in")?,
-        second: String::new(alloc),
-        count: 0,
-        steps,
-        heap: 16,
-        stack: 1024,
-    };
-    let outcome = perform(alloc, &command, &mut files, &mut input, &mut out);
-    let status = put_line(alloc, &outcome, &mut err);
-    Ok(Leaves {
-        status,
-        files,
-        input,
-        out,
-        err,
-    })
+/// The words that run the image at `in` with so many instructions and the least sizes.
+fn least(steps: &'static str) -> [&'static str; 8] {
+    [
+        "exec", "in", "--steps", steps, "--heap", "16", "--stack", "1024",
+    ]
 }
 
 /// Runs an image, and compares what comes.
 fn check_exec(
     rt: &impl Abort,
     alloc: Global,
-    steps: u64,
+    steps: &'static str,
     image: &[u8],
     status: Status,
     err: &[u8],
 ) -> Result<(), Fail> {
-    let left = perform_on(alloc, Verb::Exec, steps, image, b"")?;
+    let left = call(alloc, &least(steps), image, b"", [0, 0, 0, 0])?;
     assert_eq!(rt; left.err.bytes(), err);
     assert_eq!(rt; left.status, status);
     assert_eq!(rt; left.out.bytes(), b"".as_slice());
@@ -291,9 +263,9 @@ fn an_image_is_run(rt: HostRuntime) -> Result<(), Fail> {
     let alloc = rt.alloc();
     let nothing = image_of(alloc, &NOTHING)?;
     let heap = image_of(alloc, &HEAP)?;
-    check_exec(&rt, alloc, 9, &nothing, Status::Trap, b"trap at 65536\n")?;
-    check_exec(&rt, alloc, 9, &heap, Status::Heap, b"heap\n")?;
-    check_exec(&rt, alloc, 1, &heap, Status::StepLimit, b"step limit\n")
+    check_exec(&rt, alloc, "9", &nothing, Status::Trap, b"trap at 65536\n")?;
+    check_exec(&rt, alloc, "9", &heap, Status::Heap, b"heap\n")?;
+    check_exec(&rt, alloc, "1", &heap, Status::StepLimit, b"step limit\n")
 }
 
 #[test]
@@ -302,16 +274,16 @@ fn bytes_that_are_no_image_are_told(rt: HostRuntime) -> Result<(), Fail> {
     let mut image = image_of(alloc, &NOTHING)?;
     image.push(0)?;
     let trailing = b"bad image Trailing at 60\n";
-    check_exec(&rt, alloc, 9, &image, Status::BadImage, trailing)?;
+    check_exec(&rt, alloc, "9", &image, Status::BadImage, trailing)?;
     image.truncate(59);
     let short = b"bad image Short at 59\n";
-    check_exec(&rt, alloc, 9, &image, Status::BadImage, short)
+    check_exec(&rt, alloc, "9", &image, Status::BadImage, short)
 }
 
 #[test]
 fn the_input_of_an_image_is_text(rt: HostRuntime) -> Result<(), Fail> {
     let image = image_of(rt.alloc(), &NOTHING)?;
-    let left = perform_on(rt.alloc(), Verb::Exec, 9, &image, b"\xff")?;
+    let left = call(rt.alloc(), &least("9"), &image, b"\xff", [0, 0, 0, 0])?;
     assert_eq!(rt; left.status, Status::InputNotText);
     assert_eq!(rt; left.err.bytes(), b"input not text at 0\n".as_slice());
     Ok(())
@@ -320,7 +292,7 @@ fn the_input_of_an_image_is_text(rt: HostRuntime) -> Result<(), Fail> {
 #[test]
 fn an_image_is_listed(rt: HostRuntime) -> Result<(), Fail> {
     let image = image_of(rt.alloc(), &HEAP)?;
-    let mut left = perform_on(rt.alloc(), Verb::Disasm, 9, &image, b"x")?;
+    let mut left = call(rt.alloc(), &["disasm", "in"], &image, b"x", [0, 0, 0, 0])?;
     assert_eq!(rt; left.status, Status::Done);
     assert_eq!(rt;
         left.out.bytes(),

@@ -1,4 +1,4 @@
-use super::*;
+use compiler::{CompileFault, compile};
 use debug_info::{Site, SitePlace};
 use lisp_base::Place;
 use std::test::*;

@@ -1,0 +1,7 @@
+//! Tests of the commands and of the words that ask for them.
+#![tactic(auto)]
+
+#[cfg(test)]
+mod runs;
+#[cfg(test)]
+mod words;
