@@ -150,7 +150,7 @@ bodies_are_sound bodies values data_of places symbols reached sc vs w after c is
 pub preludes_define : FormsDefine → PreludesDefine
 preludes_define forms s v w after t name free is =
     let given : TreeGiven (helper_scope s) (expand most_fuel most_levels most_chain (helper_scope s) v (counted_anew w)) t after =
-        top_given most_chain (helper_scope s) v w after t is in
+    top_given most_chain (helper_scope s) v w after t is in
     let defined : definitions.Defines s (definitions.top_of s given.core after.nodes) =
-        forms most_fuel most_levels most_chain s policies.FIRST_POLICY v (counted_anew w) after given.core after.nodes name free given.is in
+    forms most_fuel most_levels most_chain s policies.FIRST_POLICY v (counted_anew w) after given.core after.nodes name free given.is in
     subst (DefinesSymbol s) given.top (record { is = defined.definition; name = sym defined.named })

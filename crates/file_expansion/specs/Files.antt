@@ -1,5 +1,5 @@
 -- The program that the forms of a file expand to, with the prelude, or the file's first refusal (this project's own).
-use Rattle.std.specs.Prelude.{◌≡◌, ℕ, Bool, true, false, ◌||◌, if◌then◌else◌, List, [], ◌∷◌, ◌++◌, map, Option, Some, None}
+use Rattle.std.specs.Prelude.{◌≡◌, ℕ, Bool, true, false, ◌||◌, if◌then◌else◌, List, [], ◌∷◌, ◌++◌, map, Option, None}
 use Rattle.std.specs.Option.{option_and_then}
 use Rattle.lisp_base.specs.declared.base_symbols.TheConstants as at
 use Rattle.lisp_base.specs.declared.values.Place.{Place}
@@ -81,7 +81,14 @@ helpers done (f ∷ fs) = helper_of done f.form >>= λ h. helpers (done ++ h ∷
 
 abbrev pub first_world : Stock → World
 first_world s = record {
-  table = s.symbols; heap = s.objects; specials = []; declaimed = []; policy = policies.FIRST_POLICY; next = 1; functions = 0; nodes = 0;
+  table = s.symbols;
+  heap = s.objects;
+  specials = [];
+  declaimed = [];
+  policy = policies.FIRST_POLICY;
+  next = 1;
+  functions = 0;
+  nodes = 0;
 }
 
 -- fresh symbols are numbered from 1 again after the prelude

@@ -11,7 +11,6 @@ use Rattle.closed_copies.specs.Copies.{closed_copies}
 use Rattle.program_size.specs.Mentions.{Sized, Function}
 use Rattle.program_size.specs.Sizes.{IsTooLarge}
 use Rattle.declarations.specs.declared.policy.Policy.{Policy}
-use Rattle.declarations.specs.Declarations.{Declared}
 use Rattle.expansion.specs.declared.kind.ExpandKind.{ExpandKind}
 use Rattle.expansion.specs.declared.kind.ExpandKind.TheVariants as kind
 use Rattle.expansion.specs.Scopes.{Scope, at_form, declared_in, with_policy}
