@@ -9,7 +9,7 @@ use Rattle.std.proofs.lemmas.Bool.Decides.{nat_tests}
 use Rattle.std.proofs.lemmas.Str.{scalars-chars}
 use Rattle.core_form.specs.Primitives.{in_range}
 use Rattle.lisp_reader.specs.declared.fault.ReadKind.TheVariants.{BadToken, Unsupported}
-use Rattle.lisp_reader.specs.Tokens.{Atom, integer, character, string, symbol, keyword, Token, opening, vector, closing, dot, prefix, atom, bad, is_white, token_length, unsigned, is_number, integers_end, is_negative, amount, signed, number, is_dot, undotted, is_left_out, is_no_name, name_of, word, is_spelled, named_code, character_or_bad, character_of, begins, string_size, letters, comment_size, Piece, gap, one, found_string, found_comment, in_base, after_escape, after_sharp, after_comma, word_piece, first_piece, Placed, placed_before, tokens}
+use Rattle.lisp_reader.specs.Tokens.{Atom, integer, character, string, symbol, keyword, Token, opening, vector, closing, dot, prefix, atom, bad, is_white, token_length, unsigned, is_number, integers_end, is_negative, amount, signed, number, is_dot, undotted, is_left_out, is_no_name, name_of, word, is_spelled, named_code, character_or_bad, character_of, begins, string_size, letters, comment_size, Piece, one, found_string, found_comment, in_base, after_escape, after_sharp, after_comma, word_piece, first_piece, Placed, placed_before, tokens}
 use Rattle.lisp_reader.specs.Answers.{file_tokens, text_tokens}
 
 -- ---- each element of a list
@@ -105,9 +105,6 @@ if_piece n false x y h k = k
 
 bad_fine : (n : ℕ) (kind : _) → IsFine n (bad kind)
 bad_fine n kind = record { fine = tt }
-
-gap_fine : (n size : ℕ) → IsFinePiece n (gap size)
-gap_fine n size = record { fine = tt }
 
 one_fine : (n : ℕ) (t : Token) (size : ℕ) → IsFine n t → IsFinePiece n (one t size)
 one_fine n t size h = record { fine = h.fine }
