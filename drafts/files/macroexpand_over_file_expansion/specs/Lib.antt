@@ -1,0 +1,4 @@
+-- The definitions of this crate.
+pub mod Going
+pub mod Preludes
+pub mod Given
