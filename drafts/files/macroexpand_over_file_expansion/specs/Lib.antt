@@ -1,4 +1,0 @@
--- The definitions of this crate.
-pub mod Going
-pub mod Preludes
-pub mod Given
