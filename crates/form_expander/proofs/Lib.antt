@@ -4,7 +4,6 @@ pub mod Bound
 pub mod Matching
 pub mod SketchReading
 pub mod SketchLists
-pub mod Contents
 pub mod Declaring
 pub mod Follow
 pub mod Nested
@@ -14,3 +13,19 @@ pub mod Sketching
 pub mod Pairing
 pub mod Setting
 pub mod Leaving
+pub mod ContentsRead
+pub mod Following
+pub mod Within
+pub mod ChainSteps
+pub mod PartLists
+pub mod Leading
+pub mod FunctionSteps
+pub mod FunctionParts
+pub mod Kept
+pub mod Zipped
+pub mod Counted
+pub mod FunctionWays
+pub mod LocalWays
+pub mod SketchWays
+pub mod PartLoops
+pub mod BindWays

@@ -8,3 +8,6 @@ pub mod Stepping
 pub mod Keeping
 pub mod Opened
 pub mod Calling
+pub mod Extending
+pub mod Chains
+pub mod Beginnings

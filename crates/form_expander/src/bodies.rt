@@ -17,9 +17,9 @@ use std::alloc::Global;
 
 /// A body's declarations and forms.
 #[derive(Drop)]
-pub(crate) struct Contents {
-    pub(crate) declared: Declared,
-    pub(crate) forms: Vals,
+pub struct Contents {
+    pub declared: Declared,
+    pub forms: Vals,
 }
 
 /// The refusal of the form that is being expanded.
@@ -65,7 +65,7 @@ fn declared_by(
 ///
 /// # Errors
 /// `BadForm`, `BadType` or `BadPolicy`, as the declarations are refused; want of memory.
-pub(crate) fn contents_of(
+pub fn contents_of(
     world: &World,
     alloc: Global,
     scope: &Scope,

@@ -21,14 +21,14 @@ use std::alloc::{AllocError, Global};
 
 /// What a scope was when a form was entered.
 #[derive(Clone, Copy)]
-pub(crate) struct Mark {
-    pub(crate) place: Place,
-    pub(crate) policy: Policy,
-    pub(crate) variables: usize,
-    pub(crate) checks: usize,
-    pub(crate) functions: usize,
-    pub(crate) blocks: usize,
-    pub(crate) tags: usize,
+pub struct Mark {
+    pub place: Place,
+    pub policy: Policy,
+    pub variables: usize,
+    pub checks: usize,
+    pub functions: usize,
+    pub blocks: usize,
+    pub tags: usize,
 }
 
 /// What the name of a variable that is bound means.
@@ -53,7 +53,7 @@ impl Scope {
     }
 
     /// What the scope is, to be so again when a form is left.
-    pub(crate) fn mark(&self) -> Mark
+    pub fn mark(&self) -> Mark
         ensures { result ≡ mark_of (scope_of self.now) }
     {
         Mark {
@@ -68,7 +68,7 @@ impl Scope {
     }
 
     /// Takes away what was added after the mark.
-    pub(crate) fn leave(&mut self, mark: Mark)
+    pub fn leave(&mut self, mark: Mark)
         ensures { scope_of self.new ≡ cut mark (scope_of self.old) }
     {
         self.place = mark.place;
@@ -82,7 +82,7 @@ impl Scope {
 
     /// Goes to the place of a form.
     #[tactic(auto, unfolding(expansion::specs::Scopes::at_form))]
-    pub(crate) fn enter_form(&mut self, heap: &Heap, form: Val)
+    pub fn enter_form(&mut self, heap: &Heap, form: Val)
         ensures { scope_of self.new ≡ plain.at_form heap.now form (scope_of self.old) }
     {
         self.place = self.own_place(heap, form);
@@ -164,11 +164,7 @@ impl Scope {
     /// # Errors
     /// Want of memory alone.
     #[tactic(auto, unfolding(expansion::specs::Scopes::declared_in))]
-    pub(crate) fn add_declared(
-        &mut self,
-        alloc: Global,
-        declared: &Declared,
-    ) -> Result<(), AllocError>
+    pub fn add_declared(&mut self, alloc: Global, declared: &Declared) -> Result<(), AllocError>
         ensures { OnOk result (scope_of self.new ≡ plain.declared_in (declared_of declared.now) (scope_of self.old)) }
     {
         self.add_specials(&declared.specials)?;

@@ -107,7 +107,8 @@ pub(crate) fn make_parameter(
     alloc: Global,
     binder: &Binder,
 ) -> Result<Parameter, Fault>
-    ensures { Follows parameter_of (parameter (binder_of binder.now) (world_of world.old)) result (world_of world.new) }
+    ensures follows { Follows parameter_of (parameter (binder_of binder.now) (world_of world.old)) result (world_of world.new) }
+    ensures symbols { world.new.symbols ≡ world.old.symbols }
 {
     let is_special = is_special(world, binder);
     let number = world.take_numbers(numbers_for(is_special))?;
@@ -129,6 +130,7 @@ pub(crate) fn make_parameters(
 ) -> Result<Vec<Parameter>, Fault>
     ensures follows { Follows (λ made. beside (map binder_of binders.now) (map parameter_of made.items)) (bound_each (map binder_of binders.now) (world_of world.old)) result (world_of world.new) }
     ensures all { IfOk result (λ made. parameters (beside (map binder_of binders.now) (map parameter_of made.items)) ≡ map parameter_of made.items) }
+    ensures symbols { world.new.symbols ≡ world.old.symbols }
 {
     let mut made = Vec::new(alloc);
     for binder in binders {
@@ -150,6 +152,7 @@ pub(crate) fn make_some(
 ) -> Result<Option<Parameter>, Fault>
     ensures follows { Follows (λ made. beside_some (option_map binder_of binder.now) (option_map parameter_of made)) (bound_some (option_map binder_of binder.now) (world_of world.old)) result (world_of world.new) }
     ensures all { IfOk result (λ made. parameter_some (beside_some (option_map binder_of binder.now) (option_map parameter_of made)) ≡ option_map parameter_of made) }
+    ensures symbols { world.new.symbols ≡ world.old.symbols }
 {
     match binder {
         Some(binder) => Ok(Some(make_parameter(world, alloc, binder)?)),
@@ -168,6 +171,7 @@ pub(crate) fn make_initials(
 ) -> Result<Vec<Parameter>, Fault>
     ensures follows { Follows (λ made. initials_beside (map initial_of initials.now) (map parameter_of made.items)) (bound_initials (map initial_of initials.now) (world_of world.old)) result (world_of world.new) }
     ensures all { IfOk result (λ made. initials_parameters (initials_beside (map initial_of initials.now) (map parameter_of made.items)) ≡ map parameter_of made.items) }
+    ensures symbols { world.new.symbols ≡ world.old.symbols }
 {
     let mut made = Vec::new(alloc);
     for binding in initials {
@@ -189,6 +193,7 @@ pub(crate) fn make_optionals(
 ) -> Result<Vec<OptionalParameter>, Fault>
     ensures follows { Follows (λ made. optionals_beside (map optional_of optionals.now) (map pair_of made.items)) (bound_optionals (map optional_of optionals.now) (world_of world.old)) result (world_of world.new) }
     ensures all { IfOk result (λ made. optionals_parameters (optionals_beside (map optional_of optionals.now) (map pair_of made.items)) ≡ map pair_of made.items) }
+    ensures symbols { world.new.symbols ≡ world.old.symbols }
 {
     let mut made = Vec::new(alloc);
     for optional in optionals {

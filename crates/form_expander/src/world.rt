@@ -1,5 +1,6 @@
 //! What an expansion knows and counts.
 
+ghost use Rattle.std.specs.Prelude.{◌≡◌};
 ghost use Rattle.expansion.specs.Steps.{begin as begun_by, take_function as function_taken, take_numbers as numbers_taken};
 ghost use Rattle.form_expander.specs.Outcomes.{Follows};
 ghost use Rattle.form_expander.specs.Reading.{scope_of, world_of};
@@ -36,7 +37,8 @@ impl World {
     /// level is left, both at the form that is being expanded.
     #[tactic(auto, unfolding(expansion::specs::Steps::begin, expansion::specs::Steps::begun, expansion::specs::Steps::most_nodes))]
     pub(crate) fn begin(&mut self, count: u32, levels: u32, scope: &Scope) -> Result<(), Fault>
-        ensures { Follows (λ _. tt) (begun_by count levels (scope_of scope.now) (world_of self.old)) result (world_of self.new) }
+        ensures follows { Follows (λ _. tt) (begun_by count levels (scope_of scope.now) (world_of self.old)) result (world_of self.new) }
+        ensures symbols { self.new.symbols ≡ self.old.symbols }
     {
         let place = scope.place;
         let nodes = match self.nodes.checked_add(count) {
@@ -64,7 +66,8 @@ impl World {
     /// Want of memory, where the numbers end.
     #[tactic(auto, unfolding(expansion::specs::Steps::take_numbers))]
     pub(crate) fn take_numbers(&mut self, count: u32) -> Result<u32, Fault>
-        ensures { Follows (λ n. n) (numbers_taken count (world_of self.old)) result (world_of self.new) }
+        ensures follows { Follows (λ n. n) (numbers_taken count (world_of self.old)) result (world_of self.new) }
+        ensures symbols { self.new.symbols ≡ self.old.symbols }
     {
         let first = self.next;
         self.next = first.checked_add(count).ok_or(Fault::Memory)?;
@@ -77,7 +80,8 @@ impl World {
     /// Want of memory, where the numbers end.
     #[tactic(auto, unfolding(expansion::specs::Steps::take_function))]
     pub(crate) fn take_function(&mut self) -> Result<u32, Fault>
-        ensures { Follows (λ n. n) (function_taken (world_of self.old)) result (world_of self.new) }
+        ensures follows { Follows (λ n. n) (function_taken (world_of self.old)) result (world_of self.new) }
+        ensures symbols { self.new.symbols ≡ self.old.symbols }
     {
         let number = self.functions;
         self.functions = number.checked_add(1).ok_or(Fault::Memory)?;

@@ -2,7 +2,7 @@ use Rattle.std.proofs.Common.{◌∙◌}
 use Rattle.std.proofs.lemmas.Result.{err_from_is_err_and}
 use Rattle.declarations.specs.Declarations.{declared_of}
 use Rattle.form_expander.specs.Reading.{scope_of, world_of}
-use Rattle.form_expander.proofs.Contents.{contents_given, contents_refused}
+use Rattle.form_expander.proofs.ContentsRead.{contents_given, contents_refused}
 use Rattle.form_expander.proofs.bodies.contents_of.Goals as goal
 
 pub returns-in_err-declared : goal.returns-in_err-declared

@@ -16,6 +16,7 @@ loop-binding-init c = record {
   follows = made_none initial_of parameter_of initial_as bound_initial c.args.initials.now c.new-made.result.items (world_of c.args.world.now) c.new-made.ensures.items;
   all = seen_none initial_of parameter_of initial_as (λ (p : Bound × Val). p.0.1) c.args.initials.now c.new-made.result.items c.new-made.ensures.items;
   count = ap length c.new-made.ensures.items;
+  symbols = refl;
 }
 
 pub loop-binding-preserved : goal.loop-binding-preserved
@@ -23,9 +24,10 @@ loop-binding-preserved c =
     record {
       follows =
           made_more initial_of parameter_of initial_as bound_initial c.args.initials.now c.loop-binding.binding-index c.binding-item.result c.loop-binding.made.items c.push.new.self.items c.in_ok-parameter.parameter (world_of c.loop-binding.world) (world_of c.make_parameter.new.world) _ c.loop-binding-test.true c.binding-item.is c.loop-binding.invariant.count c.in_ok-push.ensures.items
-          (initial_gives (initial_of c.binding-item.result) (world_of c.loop-binding.world) (world_of c.make_parameter.new.world) (parameter_of c.in_ok-parameter.parameter) c.in_ok-parameter.ensures) c.loop-binding.invariant.follows;
+          (initial_gives (initial_of c.binding-item.result) (world_of c.loop-binding.world) (world_of c.make_parameter.new.world) (parameter_of c.in_ok-parameter.parameter) c.in_ok-parameter.ensures.follows) c.loop-binding.invariant.follows;
       all = seen_more initial_of parameter_of initial_as (λ (p : Bound × Val). p.0.1) c.args.initials.now c.loop-binding.binding-index c.binding-item.result c.loop-binding.made.items c.push.new.self.items c.in_ok-parameter.parameter c.loop-binding-test.true c.binding-item.is c.loop-binding.invariant.count c.in_ok-push.ensures.items refl c.loop-binding.invariant.all;
       count = counted c.loop-binding.made.items c.push.new.self.items c.in_ok-parameter.parameter c.loop-binding.binding-index c.loop-binding.invariant.count c.in_ok-push.ensures.items;
+      symbols = c.in_ok-parameter.ensures.symbols ∙ c.loop-binding.invariant.symbols;
     }
 
 pub returns-clause-follows : goal.returns-clause-follows
@@ -40,5 +42,5 @@ returns-in_err-parameter-clause-follows c =
     let p = err_from_is_err_and c.from_residual.result c.from_residual.ensures.1 in
     let there : Refuses (each_of bound_initial (map initial_of c.args.initials.now) (world_of c.args.world.now)) c.in_err-parameter.field-0.0 =
     refused_there initial_of bound_initial c.args.initials.now c.loop-binding.binding-index c.binding-item.result _ (world_of c.loop-binding.world) _ c.in_err-parameter.field-0.0 c.loop-binding-test.true c.binding-item.is
-    (initial_refused (initial_of c.binding-item.result) (world_of c.loop-binding.world) c.in_err-parameter.field-0.0 c.in_err-parameter.ensures) c.loop-binding.invariant.follows in
+    (initial_refused (initial_of c.binding-item.result) (world_of c.loop-binding.world) c.in_err-parameter.field-0.0 c.in_err-parameter.ensures.follows) c.loop-binding.invariant.follows in
     rw (p.1, p.2) (refuses_along _ _ c.in_err-parameter.field-0.0 (each_initial (map initial_of c.args.initials.now) (world_of c.args.world.now)) there)

@@ -13,4 +13,5 @@ invariant-loop-binding l = record {
   follows : after (initials_beside (map initial_of l.initials) (map parameter_of l.made.items)) (each_of bound_initial (map initial_of (drop l.binding-index l.initials)) (world_of l.world)) ≡ each_of bound_initial (map initial_of l.initials) (world_of l.initial.world);
   all : map (λ (p : Bound × Val). p.0.1) (initials_beside (map initial_of l.initials) (map parameter_of l.made.items)) ≡ map parameter_of l.made.items;
   count : length l.made.items ≡ l.binding-index;
+  symbols : l.world.symbols ≡ l.initial.world.symbols;
 }

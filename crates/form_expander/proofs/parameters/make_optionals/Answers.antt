@@ -1,4 +1,4 @@
-use Rattle.std.proofs.Common.{length, map, ap, ◌∙◌, Option}
+use Rattle.std.proofs.Common.{length, map, refl, ap, ◌∙◌, Option}
 use Rattle.std.proofs.lemmas.Result.{err_from_is_err_and}
 use Rattle.core_form.specs.Tree.{Parameter}
 use Rattle.core_form.specs.Reading.{parameter_of}
@@ -16,6 +16,7 @@ loop-optional-init c = record {
   follows = made_none optional_of pair_of optional_as bound_optional_by c.args.optionals.now c.new-made.result.items (world_of c.args.world.now) c.new-made.ensures.items;
   all = seen_none optional_of pair_of optional_as optional_pair c.args.optionals.now c.new-made.result.items c.new-made.ensures.items;
   count = ap length c.new-made.ensures.items;
+  symbols = refl;
 }
 
 pub loop-optional-preserved : goal.loop-optional-preserved
@@ -24,9 +25,10 @@ loop-optional-preserved c =
     record {
       follows =
           made_more optional_of pair_of optional_as bound_optional_by c.args.optionals.now c.loop-optional.optional-index c.optional-item.result c.loop-optional.made.items c.push.new.self.items pair (world_of c.loop-optional.world) (world_of c.make_some.new.world) _ c.loop-optional-test.true c.optional-item.is c.loop-optional.invariant.count c.in_ok-push.ensures.items
-          (optional_gives (optional_of c.optional-item.result) (world_of c.loop-optional.world) (world_of c.make_parameter.new.world) (world_of c.make_some.new.world) (parameter_of c.in_ok-parameter.parameter) _ c.in_ok-parameter.ensures c.in_ok-supplied.ensures.follows) c.loop-optional.invariant.follows;
+          (optional_gives (optional_of c.optional-item.result) (world_of c.loop-optional.world) (world_of c.make_parameter.new.world) (world_of c.make_some.new.world) (parameter_of c.in_ok-parameter.parameter) _ c.in_ok-parameter.ensures.follows c.in_ok-supplied.ensures.follows) c.loop-optional.invariant.follows;
       all = seen_more optional_of pair_of optional_as optional_pair c.args.optionals.now c.loop-optional.optional-index c.optional-item.result c.loop-optional.made.items c.push.new.self.items pair c.loop-optional-test.true c.optional-item.is c.loop-optional.invariant.count c.in_ok-push.ensures.items (ap (λ (s : Option Parameter). (parameter_of c.in_ok-parameter.parameter, s)) c.in_ok-supplied.ensures.all) c.loop-optional.invariant.all;
       count = counted c.loop-optional.made.items c.push.new.self.items pair c.loop-optional.optional-index c.loop-optional.invariant.count c.in_ok-push.ensures.items;
+      symbols = c.in_ok-supplied.ensures.symbols ∙ c.in_ok-parameter.ensures.symbols ∙ c.loop-optional.invariant.symbols;
     }
 
 pub returns-clause-follows : goal.returns-clause-follows
@@ -41,7 +43,7 @@ returns-in_err-parameter-clause-follows c =
     let p = err_from_is_err_and c.from_residual.result c.from_residual.ensures.1 in
     let there : Refuses (each_of bound_optional_by (map optional_of c.args.optionals.now) (world_of c.args.world.now)) c.in_err-parameter.field-0.0 =
     refused_there optional_of bound_optional_by c.args.optionals.now c.loop-optional.optional-index c.optional-item.result _ (world_of c.loop-optional.world) _ c.in_err-parameter.field-0.0 c.loop-optional-test.true c.optional-item.is
-    (optional_refused (optional_of c.optional-item.result) (world_of c.loop-optional.world) c.in_err-parameter.field-0.0 c.in_err-parameter.ensures) c.loop-optional.invariant.follows in
+    (optional_refused (optional_of c.optional-item.result) (world_of c.loop-optional.world) c.in_err-parameter.field-0.0 c.in_err-parameter.ensures.follows) c.loop-optional.invariant.follows in
     rw (p.1, p.2) (refuses_along _ _ c.in_err-parameter.field-0.0 (each_optional (map optional_of c.args.optionals.now) (world_of c.args.world.now)) there)
 
 pub returns-in_err-supplied-clause-follows : goal.returns-in_err-supplied-clause-follows
@@ -49,5 +51,5 @@ returns-in_err-supplied-clause-follows c =
     let p = err_from_is_err_and c.from_residual-in_err-supplied.result c.from_residual-in_err-supplied.ensures.1 in
     let there : Refuses (each_of bound_optional_by (map optional_of c.args.optionals.now) (world_of c.args.world.now)) c.in_err-supplied.field-0.0 =
     refused_there optional_of bound_optional_by c.args.optionals.now c.loop-optional.optional-index c.optional-item.result _ (world_of c.loop-optional.world) _ c.in_err-supplied.field-0.0 c.loop-optional-test.true c.optional-item.is
-    (supplied_refused (optional_of c.optional-item.result) (world_of c.loop-optional.world) (world_of c.make_parameter.new.world) (parameter_of c.in_ok-parameter.parameter) c.in_err-supplied.field-0.0 c.in_ok-parameter.ensures c.in_err-supplied.ensures.follows) c.loop-optional.invariant.follows in
+    (supplied_refused (optional_of c.optional-item.result) (world_of c.loop-optional.world) (world_of c.make_parameter.new.world) (parameter_of c.in_ok-parameter.parameter) c.in_err-supplied.field-0.0 c.in_ok-parameter.ensures.follows c.in_err-supplied.ensures.follows) c.loop-optional.invariant.follows in
     rw (p.1, p.2) (refuses_along _ _ c.in_err-supplied.field-0.0 (each_optional (map optional_of c.args.optionals.now) (world_of c.args.world.now)) there)

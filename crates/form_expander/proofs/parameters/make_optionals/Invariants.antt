@@ -10,4 +10,5 @@ invariant-loop-optional l = record {
   follows : after (optionals_beside (map optional_of l.optionals) (map pair_of l.made.items)) (each_of bound_optional_by (map optional_of (drop l.optional-index l.optionals)) (world_of l.world)) ≡ each_of bound_optional_by (map optional_of l.optionals) (world_of l.initial.world);
   all : map optional_pair (optionals_beside (map optional_of l.optionals) (map pair_of l.made.items)) ≡ map pair_of l.made.items;
   count : length l.made.items ≡ l.optional-index;
+  symbols : l.world.symbols ≡ l.initial.world.symbols;
 }

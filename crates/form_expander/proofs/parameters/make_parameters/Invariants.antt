@@ -11,4 +11,5 @@ invariant-loop-binder l = record {
   follows : after (beside (map binder_of l.binders) (map parameter_of l.made.items)) (each_of bound (map binder_of (drop l.binder-index l.binders)) (world_of l.world)) ≡ each_of bound (map binder_of l.binders) (world_of l.initial.world);
   all : map (λ (b : Bound). b.1) (beside (map binder_of l.binders) (map parameter_of l.made.items)) ≡ map parameter_of l.made.items;
   count : length l.made.items ≡ l.binder-index;
+  symbols : l.world.symbols ≡ l.initial.world.symbols;
 }

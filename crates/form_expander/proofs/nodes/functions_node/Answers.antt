@@ -1,0 +1,11 @@
+use Rattle.std.proofs.Common.{ap, ◌∙◌}
+use Rattle.core_form.specs.declared.tree.Core.{Core as Core'}
+use Rattle.core_form.specs.ListReading.{definitions_list}
+use Rattle.core_form.specs.Reading.{core_of}
+use Rattle.core_form.specs.Tree as tree
+use Rattle.form_expander.proofs.nodes.functions_node.Goals as goal
+
+pub returns : goal.returns
+returns c =
+    c.at.ensures
+    ∙ (c.reads_nodes.ensures.functions c.args.place c.args.definitions c.in_ok-body.body ∙ ap (λ (e : Core'). tree.Labels c.args.place (definitions_list c.args.definitions.items) (core_of e)) c.in_ok-body.ensures.ok)
