@@ -1,0 +1,5 @@
+-- The definitions of this crate.
+pub mod Going
+pub mod Preludes
+pub mod Given
+pub mod Small
