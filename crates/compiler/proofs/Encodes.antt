@@ -1,6 +1,6 @@
 -- Each instruction of a program's code has a word that is read back as that instruction.
 use Rattle.std.proofs.Common.{refl, ap, ◌∙◌, arith, length-append}
-use Rattle.std.specs.Prelude.{◌≡◌, ℕ, zero, suc, ◌+◌, ◌*◌, ◌/◌, ◌%◌, ◌^◌, ◌<◌, ◌≤◌, true, false, ◌&&◌, List, [], ◌∷◌, ◌++◌, length, Option, Some}
+use Rattle.std.specs.Prelude.{◌≡◌, ℕ, zero, suc, ◌+◌, ◌*◌, ◌/◌, ◌%◌, ◌^◌, ◌<◌, ◌≤◌, true, false, ◌&&◌, All, List, [], ◌∷◌, ◌++◌, length, Option, Some}
 use Rattle.lisp_base.specs.declared.values.Val.{Val}
 use Rattle.lisp_base.specs.declared.values.Val.TheVariants.{Int, Char, Sym, Ref}
 use Rattle.lisp_base.specs.declared.values.Place.{Place}
@@ -21,8 +21,10 @@ use Rattle.compiler.specs.declared.slot.Slot.{Slot}
 use Rattle.compiler.specs.Words.{symbol_word}
 use Rattle.compiler.specs.Templates.{nil_slots, word_slots, read_slots, check_slots, write_slots, if_slots, test_slots, skip, end_slots, upper_part, lower_part}
 use Rattle.compiler.specs.Code.{code_of, sequence_of, constant_slots, symbol_slots, forms_code, program_code, is_served, are_served, is_constant, is_character_type, is_file, forms_served}
+use Rattle.compiler.specs.Compiled.{IsNear}
 use Rattle.compiler.proofs.Inputs.{char_bound}
 use Rattle.compiler.proofs.Nodes.{and_left, and_right}
+use Rattle.compiler.proofs.Sizes.{near_first, near_rest}
 
 same_fields : (f g : Fields) → f.opcode ≡ g.opcode → f.rd ≡ g.rd → f.funct3 ≡ g.funct3 → f.rs1 ≡ g.rs1 → f.rs2 ≡ g.rs2 → f.funct7 ≡ g.funct7 → f ≡ g
 same_fields f g a b c d e h =
@@ -213,16 +215,13 @@ mutual
       all_of (code_of e) rest (code_encodes e (and_left (is_served e) (are_served (core f es)) h) (omega (arith, k)))
       (sequence_encodes (core f es) (and_right (is_served e) (are_served (core f es)) h) (omega (arith, k)))
 
-forms_encode : (ts : List Top) → forms_served ts ≡ true → 4 * length (forms_code ts) < 2 ^ 20 → EncodeAll (forms_code ts)
+forms_encode : (ts : List Top) → forms_served ts ≡ true → All IsNear ts → EncodeAll (forms_code ts)
 forms_encode [] h near = tt
 forms_encode (t ∷ ts) h near =
-    let k = length-append (code_of t.core) (forms_code ts) in
     all_of (code_of t.core) (forms_code ts)
-    (code_encodes t.core (and_left (is_served t.core) (forms_served ts) h) (omega (arith, k)))
-    (forms_encode ts (and_right (is_served t.core) (forms_served ts) h) (omega (arith, k)))
+    (code_encodes t.core (and_left (is_served t.core) (forms_served ts) h) (near_first t ts near))
+    (forms_encode ts (and_right (is_served t.core) (forms_served ts) h) (near_rest t ts near))
 
-pub program_encodes : (ts : List Top) → forms_served ts ≡ true → 4 * length (program_code ts) < 2 ^ 20 → EncodeAll (program_code ts)
+pub program_encodes : (ts : List Top) → forms_served ts ≡ true → All IsNear ts → EncodeAll (program_code ts)
 program_encodes ts h near =
-    let k = length-append (forms_code ts) end_slots in
-    all_of nil_slots (forms_code ts ++ end_slots) nil_encodes
-    (all_of (forms_code ts) end_slots (forms_encode ts h (omega (arith, k))) end_encodes)
+    all_of nil_slots (forms_code ts ++ end_slots) nil_encodes (all_of (forms_code ts) end_slots (forms_encode ts h near) end_encodes)

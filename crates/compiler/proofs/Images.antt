@@ -82,7 +82,7 @@ code_length (x ∷ xs) =
     let one : length (slot_bytes x) ≡ 4 = refl in
     omega (arith, one, code_length xs, length-append (slot_bytes x) (code_bytes xs))
 
-tables_size : (xs : List Slot) → length xs < 2 ^ 18 → length (tables_bytes (character_text ∷ []) (site_rows 65536 xs) [] []) ≤ 268435456
+tables_size : (xs : List Slot) → length xs < 2 ^ 22 → length (tables_bytes (character_text ∷ []) (site_rows 65536 xs) [] []) ≤ 268435456
 unfolding tables_bytes
 tables_size xs near =
     let rows = site_rows 65536 xs in
@@ -108,7 +108,7 @@ text_right =
 
 -- ---- the rules
 
-pub are_tables : (xs : List Slot) → length xs < 2 ^ 18 → list_all (is_site 1) (site_rows 65536 xs) ≡ true → IsTables (tables_of_code xs)
+pub are_tables : (xs : List Slot) → length xs < 2 ^ 22 → list_all (is_site 1) (site_rows 65536 xs) ≡ true → IsTables (tables_of_code xs)
 are_tables xs near right = record {
   texts = text_right;
   sites = rises 65536 xs None (above_none 65536) right;
@@ -130,7 +130,7 @@ image_made xs code statics tables a b c = rw (a, b, c) refl
 whole : (n : ℕ) → (4 * n) % 4 ≡ 0
 whole n = omega arith
 
-pub is_image : (xs : List Slot) → 0 < length xs → length xs < 2 ^ 18 → IsTables (tables_of_code xs) → IsImage (image_of_code xs)
+pub is_image : (xs : List Slot) → 0 < length xs → length xs < 2 ^ 22 → IsTables (tables_of_code xs) → IsImage (image_of_code xs)
 is_image xs some near tables =
     let n = code_length xs in
     record {

@@ -9,6 +9,7 @@ pub mod Leaves
 pub mod Characters
 pub mod Nodes
 pub mod Trees
+pub mod Sizes
 pub mod Encodes
 pub mod Sited
 pub mod Standing
@@ -17,7 +18,8 @@ pub mod Programs
 pub mod Tagged
 pub mod Seen
 pub mod Theorem
-pub mod Sources
+pub mod Unbuilt
+pub mod BuiltPrograms
 pub mod Law
 mod Parted
 mod Images

@@ -1,7 +1,7 @@
 -- The code of a node with parts, by the list of its parts.
 use Rattle.std.proofs.Common.{refl, sym, ap, subst, ◌∙◌, arith, append_assoc, append-nil, length-append}
 use Rattle.std.proofs.lemmas.List.{at_drop_more}
-use Rattle.std.specs.Prelude.{◌≡◌, ℕ, zero, suc, ◌+◌, ◌^◌, ◌<◌, ◌≤◌, Bool, true, false, ◌&&◌, ◌==◌, List, [], ◌∷◌, ◌++◌, length, drop, slice_index_or}
+use Rattle.std.specs.Prelude.{◌≡◌, ℕ, zero, suc, ◌+◌, ◌*◌, ◌^◌, ◌<◌, ◌≤◌, Bool, true, false, ◌&&◌, ◌==◌, All, List, [], ◌∷◌, ◌++◌, length, drop, slice_index_or}
 use Rattle.std.proofs.lemmas.Bool.Decides.{nat_tests}
 use Rattle.std.specs.declared.vec.Vec.{Vec}
 use Rattle.std.specs.declared.alloc.Global.{Global}
@@ -14,12 +14,14 @@ use Rattle.core_form.specs.declared.tree.Core.{Core as Core'}
 use Rattle.core_form.specs.declared.tree.Form.TheVariants as variant
 use Rattle.core_form.specs.Tree.{Core, If, Progn, Primitive, The, Cores, no_core, core}
 use Rattle.core_form.specs.declared.tree.TopForm.{TopForm}
-use Rattle.core_form.specs.Reading.{form_of, core_of, cores_list, tops_of}
+use Rattle.core_form.specs.Reading.{form_of, core_of, cores_list, top_of, tops_of}
 use Rattle.core_form.specs.Laws.{ReadsProgn, ReadsPrimitive}
 use Rattle.compiler.specs.declared.slot.Slot.{Slot}
 use Rattle.compiler.specs.Templates.{nil_slots, check_slots, write_slots, if_slots, test_slots, skip}
 use Rattle.compiler.specs.Code.{code_of, sequence_of, codes_of, is_served, are_served, forms_served, is_one, is_file, is_character_type}
+use Rattle.compiler.specs.Compiled.{IsNear}
 use Rattle.compiler.proofs.Nodes.{and_left, and_right}
+use Rattle.compiler.proofs.Sizes.{near_first, near_rest}
 
 -- ---- lists of parts
 
@@ -169,3 +171,8 @@ pub form_served : (fs : List TopForm) (i : ℕ) (d : TopForm) → i < length fs 
 form_served [] i d lt h = absurd (omega arith)
 form_served (f ∷ fs) zero d lt h = and_left (is_served (core_of f.core)) (forms_served (tops_of fs)) h
 form_served (f ∷ fs) (suc i) d lt h = form_served fs i d (omega arith) (and_right (is_served (core_of f.core)) (forms_served (tops_of fs)) h)
+
+pub form_near : (fs : List TopForm) (i : ℕ) (d : TopForm) → i < length fs → All IsNear (tops_of fs) → length (code_of (core_of (slice_index_or fs i d).core)) < 2 ^ 18
+form_near [] i d lt h = absurd (omega arith)
+form_near (f ∷ fs) zero d lt h = let k : 4 * length (code_of (core_of f.core)) < 2 ^ 20 = near_first (top_of f) (tops_of fs) h in omega (arith, k)
+form_near (f ∷ fs) (suc i) d lt h = form_near fs i d (omega arith) (near_rest (top_of f) (tops_of fs) h)

@@ -1,6 +1,6 @@
 -- The code of a program, form by form, does what the program means.
 use Rattle.std.proofs.Common.{refl, sym, ap, subst, ◌∙◌, arith, length-append}
-use Rattle.std.specs.Prelude.{◌≡◌, ℕ, ◌+◌, ◌*◌, ◌^◌, ◌<◌, ◌≤◌, max, true, List, [], ◌∷◌, ◌++◌, length, reverse, Option, Some}
+use Rattle.std.specs.Prelude.{◌≡◌, ℕ, ◌+◌, ◌*◌, ◌^◌, ◌<◌, ◌≤◌, max, true, All, List, [], ◌∷◌, ◌++◌, length, reverse, Option, Some}
 use Rattle.lisp_base.specs.declared.values.Val.{Val}
 use Rattle.lisp_base.specs.declared.values.Place.{Place}
 use Rattle.lisp_base.specs.Sort.{nil}
@@ -18,12 +18,14 @@ use Rattle.rv_isa.specs.Machine.{Space, State}
 use Rattle.compiler.specs.Words.{word_of_value}
 use Rattle.compiler.specs.Templates.{end_slots}
 use Rattle.compiler.specs.Code.{code_of, forms_code, program_code, is_served, forms_served}
+use Rattle.compiler.specs.Compiled.{IsNear}
 use Rattle.compiler.proofs.Paths.{Path, Stand, joined, stands_first, stands_then}
 use Rattle.compiler.proofs.Calm.{Good, Legal, Halts}
 use Rattle.compiler.proofs.Checks.{end_halts}
 use Rattle.compiler.proofs.Constants.{nil_comes}
 use Rattle.compiler.proofs.Tracks.{Ready, Came, Tracks, Shows, bound, as_ready}
 use Rattle.compiler.proofs.Nodes.{and_left, and_right}
+use Rattle.compiler.proofs.Sizes.{near_first, near_rest}
 use Rattle.compiler.proofs.Trees.{node_does}
 
 abbrev pub itself : Val → Val
@@ -48,7 +50,7 @@ form_then space places m0 s pc before old (Leaves x l) f r = absurd r
 
 module _ (space : Space) (places : ℕ → Option Place) (m0 : ℕ → ℕ) (call : Call) (limit : ℕ) (symbols : List Symbol) where
   forms_track : (k : ℕ) (ts : List Top) → forms_served ts ≡ true → (v : Val) → Legal v → (s : State) (l : Life) (before : ℕ) → Ready m0 s l → s.registers 10 ≡ word_of_value v →
-      Stand space places s.pc (forms_code ts) → s.pc + 4 * length (forms_code ts) < 2 ^ 30 → 4 * length (forms_code ts) < 2 ^ 20 → before ≤ 16 * l.counts.cost →
+      Stand space places s.pc (forms_code ts) → s.pc + 4 * length (forms_code ts) < 2 ^ 30 → All IsNear ts → before ≤ 16 * l.counts.cost →
       Tracks space places m0 itself s (s.pc + 4 * length (forms_code ts)) before (run_forms call limit symbols k ts v l)
   unfolding everything
   forms_track n [] h v legal s l before r a0 st far near pace = record {
@@ -72,7 +74,7 @@ module _ (space : Space) (places : ℕ → Option Place) (m0 : ℕ → ℕ) (cal
       (bound space places m0 first_of_values itself s mid pc before 0 o next
       (node_does space places m0 call limit t.core (and_left (is_served t.core) (forms_served ts) h) cx s l1 (before + 0)
       (record { good = r.good; output_is = r.output_is; input_is = r.input_is; chars = r.chars })
-      (stands_first space places s.pc code rest st) (omega (arith, k)) (omega (arith, k)) (omega arith))
+      (stands_first space places s.pc code rest st) (omega (arith, k)) (near_first t ts near) (omega arith))
       (λ (t' : State) (j : ℕ) (vs : Vals) (l' : Life) (came : Came m0 t' mid (first_of_values vs) (j + (before + 0)) l').
       let at : t'.pc + 4 * length rest ≡ pc = (let a = came.at in omega (arith, k, a)) in
       let st' = subst (λ (n : ℕ). Stand space places n rest) (sym came.at) (stands_then space places s.pc code rest st) in
@@ -80,7 +82,7 @@ module _ (space : Space) (places : ℕ → Option Place) (m0 : ℕ → ℕ) (cal
       subst (λ (n : ℕ). Tracks space places m0 itself t' n (j + before) (next vs l')) at
       (forms_track further ts (and_right (is_served t.core) (forms_served ts) h) (first_of_values vs) came.legal t' (after_form l.frame vs l') (j + before)
       (record { good = ready.good; output_is = ready.output_is; input_is = ready.input_is; chars = ready.chars }) came.a0 st'
-      (let a = came.at in omega (arith, k, a)) (omega (arith, k)) (let a = came.pace in omega (arith, a)))))
+      (let a = came.at in omega (arith, k, a)) (near_rest t ts near) (let a = came.pace in omega (arith, a)))))
 
 -- The whole run: in so many steps the machine ends as the outcome tells.
 pub record Finishes (space : Space) (m0 : ℕ → ℕ) (s : State) (v : Val) (l : Life) : Type 0 where
@@ -135,9 +137,9 @@ ends_of space places m0 s t pc (NotYet l) first r st = absurd r
 ends_of space places m0 s t pc (Leaves x l) first r st = absurd r
 
 pub program_ends : (space : Space) (places : ℕ → Option Place) (m0 : ℕ → ℕ) (call : Call) (limit : ℕ) (symbols : List Symbol) (n : ℕ) (ts : List Top) → forms_served ts ≡ true →
-    (s : State) (l : Life) → Ready m0 s l → s.pc ≡ 65536 → Stand space places 65536 (program_code ts) → 4 * length (program_code ts) < 2 ^ 20 →
+    (s : State) (l : Life) → Ready m0 s l → s.pc ≡ 65536 → Stand space places 65536 (program_code ts) → All IsNear ts → length (program_code ts) < 2 ^ 22 →
     Ends space places m0 s (run_forms call limit symbols n ts nil l)
-program_ends space places m0 call limit symbols n ts h s l r at st near =
+program_ends space places m0 call limit symbols n ts h s l r at st near short =
     let code = forms_code ts in
     let k : length (code ++ end_slots) ≡ length code + 2 = length-append code end_slots in
     let st0 = subst (λ (n : ℕ). Stand space places n (program_code ts)) (sym at) st in
@@ -148,5 +150,5 @@ program_ends space places m0 call limit symbols n ts h s l r at st near =
     ends_of space places m0 s a.t (a.t.pc + 4 * length code) (run_forms call limit symbols n ts nil l) a.path
     (forms_track space places m0 call limit symbols n ts h nil (omega arith) a.t l 0
     (record { good = a.good; output_is = a.output_is; input_is = a.input_is; chars = r.chars }) a.a0_is
-    (stands_first space places a.t.pc code end_slots rest') (omega (arith, k, e, at)) (omega (arith, k)) (omega arith))
+    (stands_first space places a.t.pc code end_slots rest') (omega (arith, k, e, at)) near (omega arith))
     (stands_then space places a.t.pc code end_slots rest')

@@ -1,6 +1,6 @@
 -- The image of a program meets the program.
 use Rattle.std.proofs.Common.{refl, sym, ap, subst, ◌∙◌, arith, inl, inr}
-use Rattle.std.specs.Prelude.{◌≡◌, ◌≢◌, ℕ, zero, suc, ◌+◌, ◌-◌, ◌*◌, ◌^◌, ◌<◌, ◌≤◌, ◌⊎◌, true, List, length, Option, Some, None, pos}
+use Rattle.std.specs.Prelude.{◌≡◌, ◌≢◌, ℕ, zero, suc, ◌+◌, ◌-◌, ◌*◌, ◌^◌, ◌<◌, ◌≤◌, ◌⊎◌, true, All, List, length, Option, Some, None, pos}
 use Rattle.std.specs.Option.{option_map}
 use Rattle.lisp_base.specs.declared.values.Val.{Val}
 use Rattle.lisp_base.specs.declared.values.Val.TheVariants.{Int}
@@ -27,6 +27,7 @@ use Rattle.compiler.specs.Words.{word_of_value}
 use Rattle.compiler.specs.Code.{forms_served, program_code}
 use Rattle.compiler.specs.Meets.{AreSizes, AreChars, setup, layout, IsPrefix, HasText, SamePlace, SameError, EndsAlike, EndTells, OnEnd, ShownBy, HasEnded, WhereEnded, Reached, fuel_of, Meets}
 use Rattle.compiler.specs.Parts.{image_of_forms, site_rows, character_text, BeginsWithNames}
+use Rattle.compiler.specs.Compiled.{IsNear}
 use Rattle.compiler.proofs.Calm.{Good, Halts}
 use Rattle.compiler.proofs.Tracks.{Ready, Shows, ShowsType}
 use Rattle.compiler.proofs.Encodes.{program_encodes}
@@ -115,7 +116,7 @@ module _ (p : Program) (names : BeginsWithNames p.symbols) where
   over_of space s (NotYet l) r = absurd r
   over_of space s (Leaves x l) r = absurd r
 
-  module _ (served : forms_served p.forms ≡ true) (near : 4 * length (program_code p.forms) < 2 ^ 20) (heap stack : ℕ) (sizes : AreSizes heap stack) (input : List ℕ) (chars : AreChars input) where
+  module _ (served : forms_served p.forms ≡ true) (near : All IsNear p.forms) (short : length (program_code p.forms) < 2 ^ 22) (heap stack : ℕ) (sizes : AreSizes heap stack) (input : List ℕ) (chars : AreChars input) where
     abbrev space : Space
     space = setup_space (setup Image heap stack)
 
@@ -134,7 +135,7 @@ module _ (p : Program) (names : BeginsWithNames p.symbols) where
     unfolding everything
     over n = over_of space first (evaluate p input n)
         (program_ends space (found_place Rows) first_memory (call_to (table_of p) n n) n p.symbols (functions_count p.prelude) p.forms served first (start p input) ready refl
-        (code_stands space (program_code p.forms) refl (program_encodes p.forms served near) (program_in_file p.forms served)) near)
+        (code_stands space (program_code p.forms) refl (program_encodes p.forms served near) (program_in_file p.forms served)) near short)
 
     -- each state is before the end, and still, or the last one
     before_or_end : (o : Outcome Val) (v : Over p Image space first o) (k : ℕ) →
@@ -215,12 +216,12 @@ module _ (p : Program) (names : BeginsWithNames p.symbols) where
           (good_is_tagged (length Image.code) heap stack v.halts.last v.halts.good)
     ]
 
-  pub image_meets : forms_served p.forms ≡ true → 4 * length (program_code p.forms) < 2 ^ 20 → Meets p Image
-  image_meets served near = record {
-    shows = λ heap stack sizes input chars k. shown_at served near heap stack sizes input chars (evaluate p input (fuel_of p k)) (over served near heap stack sizes input chars (fuel_of p k)) k;
+  pub image_meets : forms_served p.forms ≡ true → All IsNear p.forms → length (program_code p.forms) < 2 ^ 22 → Meets p Image
+  image_meets served near short = record {
+    shows = λ heap stack sizes input chars k. shown_at served near short heap stack sizes input chars (evaluate p input (fuel_of p k)) (over served near short heap stack sizes input chars (fuel_of p k)) k;
     keeps_pace = λ heap stack sizes input chars n.
-        (let v = over served near heap stack sizes input chars n in
-        inr (reached_at served near heap stack sizes input chars (evaluate p input n) v (64 * work (counts_of (evaluate p input n)) + 1000) (let l = v.pace in omega (arith, l))));
-    never_traps = λ heap stack sizes input chars k pc. no_trap served near heap stack sizes input chars (evaluate p input 0) (over served near heap stack sizes input chars 0) k pc;
-    tagged = λ heap stack sizes input chars k. tagged_at served near heap stack sizes input chars (evaluate p input 0) (over served near heap stack sizes input chars 0) k;
+        (let v = over served near short heap stack sizes input chars n in
+        inr (reached_at served near short heap stack sizes input chars (evaluate p input n) v (64 * work (counts_of (evaluate p input n)) + 1000) (let l = v.pace in omega (arith, l))));
+    never_traps = λ heap stack sizes input chars k pc. no_trap served near short heap stack sizes input chars (evaluate p input 0) (over served near short heap stack sizes input chars 0) k pc;
+    tagged = λ heap stack sizes input chars k. tagged_at served near short heap stack sizes input chars (evaluate p input 0) (over served near short heap stack sizes input chars 0) k;
   }

@@ -1,38 +1,33 @@
 -- What the compiler gives: the image of a source that is a program, and that it does what the program does.
-use Rattle.std.specs.Prelude.{◌≡◌, ◌<◌, ◌*◌, ◌^◌, List, [], length, true, Ok, ℕ}
+use Rattle.std.specs.Prelude.{◌≡◌, ◌<◌, ◌*◌, ◌^◌, All, List, length, true, Ok, ℕ}
 use Rattle.core_form.specs.Tree.{Top}
 use Rattle.core_form.specs.Eval.{Program}
-use Rattle.core_form.specs.State.{Symbol}
-use Rattle.first_forms.specs.Program.{IsProgram}
+use Rattle.core_form.specs.Lawful.{Parts, meant}
+use Rattle.source_programs.specs.Programs.{IsProgramOf}
 use Rattle.image.specs.Content.{Content}
 use Rattle.image.specs.Format.{image_of}
-use Rattle.compiler.specs.Code.{forms_served, program_code}
+use Rattle.compiler.specs.Code.{code_of, forms_served, program_code}
 use Rattle.compiler.specs.Meets.{Meets}
 use Rattle.compiler.specs.Parts.{image_of_forms, BeginsWithNames}
 
--- The program of the top-level forms of a file with its symbols: no prelude yet, and no objects, since no constant of these
--- forms refers to one.
-abbrev pub program_of : List Top → List Symbol → Program
-program_of forms symbols = record { prelude = []; forms = forms; heap = []; symbols = symbols }
+-- a form's jumps, which lead from one of its instructions to another, reach all of its code
+abbrev pub IsNear : Top → Type 0
+IsNear t = 4 * length (code_of t.core) < 2 ^ 20
 
--- forms that the first path serves, whose code is in reach of its jumps
+-- forms that the first path serves, each with its code in reach of its jumps, and all with no more code than an image holds
 pub record AreServed (forms : List Top) : Type 0 where
   pub served : forms_served forms ≡ true
-  pub near : 4 * length (program_code forms) < 2 ^ 20
+  pub near : All IsNear forms
+  pub short : length (program_code forms) < 2 ^ 22
 
 -- the source is a program, the bytes are an image, and the image does what the program does
 pub record IsCompiled (source bytes : List ℕ) : Type 0 where
-  pub forms : List Top
-  pub symbols : List Symbol
-  pub is_program : IsProgram source forms symbols
+  pub program : Parts
+  pub is_program : IsProgramOf source program
   pub content : Content
   pub is_image : image_of bytes ≡ Ok content
-  pub meets : Meets (program_of forms symbols) content
+  pub meets : Meets (meant program) content
 
--- the image of the forms of a source does what their program does
-abbrev pub SourcesMeet : Type 0
-SourcesMeet = (source : List ℕ) (forms : List Top) (symbols : List Symbol) → IsProgram source forms symbols → Meets (program_of forms symbols) (image_of_forms forms)
-
--- so does the image of any forms that are served, in a program that begins with the symbols NIL and T
+-- the image of any forms that are served does what their program does, where that begins with the symbols NIL and T
 abbrev pub ImagesMeet : Type 0
 ImagesMeet = (p : Program) → BeginsWithNames p.symbols → AreServed p.forms → Meets p (image_of_forms p.forms)

@@ -5,4 +5,5 @@ pub mod SeenWords
 pub mod Meets
 pub mod Parts
 pub mod Compiled
+pub mod BuiltNodes
 pub mod Emitted

@@ -1,8 +1,9 @@
 // The code of a form, and of a whole program.
-ghost use Rattle.std.specs.Prelude.{◌≡◌, ◌^◌, ◌<◌, ◌++◌, true, length, IfOk};
+ghost use Rattle.std.specs.Prelude.{◌≡◌, ◌^◌, ◌<◌, ◌++◌, true, length, All, IfOk};
 ghost use Rattle.core_form.specs.Reading.{core_of, cores_list, tops_of};
 ghost use Rattle.compiler.specs.Templates.{check_slots as check_of, write_slots as write_of, if_slots as if_of};
 ghost use Rattle.compiler.specs.Code.{constant_slots as constant_of, operation_slots as operation_of, code_of, sequence_of, codes_of, forms_code as forms_of, program_code as program_of, is_constant, is_served, are_served, is_served_call, forms_served};
+ghost use Rattle.compiler.specs.Compiled.{IsNear};
 
 use crate::slot::Slot;
 use crate::templates::{
@@ -115,9 +116,10 @@ fn node_code(alloc: Global, core: &Core) -> Result<Vec<Slot>, AllocError>
     }
 }
 
+/// The codes of top-level forms, one after another.
 fn forms_code(alloc: Global, forms: &[TopForm]) -> Result<Vec<Slot>, AllocError>
     requires served { forms_served (tops_of forms.now) ≡ true }
-    requires near { length (forms_of (tops_of forms.now)) < 2 ^ 18 }
+    requires near { All IsNear (tops_of forms.now) }
     ensures { IfOk result (λ v. v.items ≡ forms_of (tops_of forms.now)) }
 {
     let mut code = Vec::new(alloc);
@@ -135,7 +137,7 @@ fn forms_code(alloc: Global, forms: &[TopForm]) -> Result<Vec<Slot>, AllocError>
 /// Only for want of memory.
 pub fn program_code(alloc: Global, forms: &[TopForm]) -> Result<Vec<Slot>, AllocError>
     requires served { forms_served (tops_of forms.now) ≡ true }
-    requires near { length (program_of (tops_of forms.now)) < 2 ^ 18 }
+    requires near { All IsNear (tops_of forms.now) }
     ensures { IfOk result (λ v. v.items ≡ program_of (tops_of forms.now)) }
 {
     let mut code = Vec::from_slice(alloc, &nil_slots())?;

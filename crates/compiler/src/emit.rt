@@ -30,7 +30,7 @@ fn texts(alloc: Global) -> Result<Vec<String>, AllocError>
 
 /// The debug tables of a code.
 fn code_tables(alloc: Global, code: &[Slot]) -> Result<Debug, AllocError>
-    requires { length code.now < 2 ^ 18 }
+    requires { length code.now < 2 ^ 22 }
     ensures tables { IfOk result (λ d. d ≡ tables_of_code code.now) }
     ensures rules { OnOk result (IsTables (tables_of_code code.now)) }
 {
@@ -42,7 +42,7 @@ fn code_tables(alloc: Global, code: &[Slot]) -> Result<Debug, AllocError>
 /// The image of a code that begins with its entry.
 fn code_image(alloc: Global, code: &[Slot]) -> Result<Image, AllocError>
     requires some { 0 < length code.now }
-    requires near { length code.now < 2 ^ 18 }
+    requires near { length code.now < 2 ^ 22 }
     ensures content { IfOk result (λ i. view i ≡ image_of_code code.now) }
     ensures rules { IfOk result (λ i. IsImage (view i)) }
 {

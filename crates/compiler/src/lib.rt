@@ -1,6 +1,7 @@
-//! The compiler of the first path: from the forms of a program to the bytes of an image.
+//! The compiler of the first path: from a source to the bytes of an image, where all nodes of its program are built.
 #![tactic(auto)]
 
+mod built;
 mod bytes;
 mod code;
 mod emit;
@@ -12,6 +13,7 @@ mod source;
 mod statics;
 mod templates;
 
+pub use built::first_unbuilt;
 pub use emit::program_image;
 pub use fault::CompileFault;
 pub use source::compile;

@@ -33,7 +33,7 @@ fn row_of(address: u64, slot: Slot) -> Option<SiteRow>
 ///
 /// Only for want of memory.
 pub fn site_rows(alloc: Global, code: &[Slot]) -> Result<Vec<SiteRow>, AllocError>
-    requires { length code.now < 2 ^ 18 }
+    requires { length code.now < 2 ^ 22 }
     ensures rows { IfOk result (λ v. v.items ≡ rows_of_code 65536 code.now) }
     ensures rules { IfOk result (λ v. list_all (is_site 1) v.items ≡ true) }
 {

@@ -1,6 +1,9 @@
 use compiler::{CompileFault, compile};
 use debug_info::{Site, SitePlace};
+use expansion::ExpandKind;
 use lisp_base::Place;
+use lisp_reader::ReadKind;
+use std::alloc::Global;
 use std::test::*;
 
 // The words were written out by hand from the RISC-V manual: x10 becomes x19; a call with the number 3 in x17.
@@ -34,10 +37,51 @@ fn echo(rt: HostRuntime) -> Result<(), Fail> {
 }
 
 #[test]
-fn no_program(rt: HostRuntime) {
-    let place = Place::File { offset: 0, tail: 0 };
+fn macros(rt: HostRuntime) {
+    let source = b"(when (and t #\\a) (write-char #\\b) nil)";
+    let compiled = compile(rt.alloc(), source).is_ok();
+    assert!(rt; compiled);
+}
+
+fn unread(alloc: Global, source: &[u8]) -> Option<(ReadKind, u32)> {
+    match compile(alloc, source) {
+        Err(CompileFault::Read { kind, offset }) => Some((kind, offset)),
+        _ => None,
+    }
+}
+
+fn unexpanded(alloc: Global, source: &[u8]) -> Option<(ExpandKind, Place)> {
+    match compile(alloc, source) {
+        Err(CompileFault::Expand { kind, place, .. }) => Some((kind, place)),
+        _ => None,
+    }
+}
+
+fn unbuilt(alloc: Global, source: &[u8]) -> Option<Place> {
+    match compile(alloc, source) {
+        Err(CompileFault::NotYet { place, .. }) => Some(place),
+        _ => None,
+    }
+}
+
+fn at(offset: u32) -> Place {
+    Place::File { offset, tail: 0 }
+}
+
+#[test]
+fn refusals(rt: HostRuntime) {
+    let alloc = rt.alloc();
+    assert_eq!(rt; unread(alloc, b"t )"), Some((ReadKind::Unbalanced, 2)));
     assert_eq!(rt;
-        compile(rt.alloc(), b"(car nil)").err(),
-        Some(CompileFault::NotYet { place })
+        unexpanded(alloc, b"t (if)"),
+        Some((ExpandKind::BadForm, at(2)))
     );
+    assert_eq!(rt; unbuilt(alloc, b"t (progn t (car nil))"), Some(at(11)));
+}
+
+// A function of the prelude is unbuilt before all forms of the file.
+#[test]
+fn prelude_first(rt: HostRuntime) {
+    let place = unbuilt(rt.alloc(), b"(car nil) (reverse nil)");
+    assert!(rt; matches!(place, Some(Place::Prelude { .. })));
 }

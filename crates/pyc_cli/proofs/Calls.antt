@@ -21,7 +21,7 @@ use Rattle.pyc_cli.specs.Stages.{word_close}
 use Rattle.pyc_cli.specs.Told.{Told, IsSet, TellsFound, TellsSource}
 use Rattle.pyc_cli.specs.Tool.{Ends, Tells, TellsVerb, gets_first, verb_gets_first, AsTold, ChangesOnly, RoseInRead, RoseInWrite, name_set, verb_sets}
 use Rattle.pyc_cli.specs.Work.{Outside, outside, Whole, Works, Early, Late, Does, IsTorn, GetFault, TakeFault, SetFault, PutFault}
-use Rattle.pyc_cli.proofs.Works.{does_usage, exec_set, disasm_set}
+use Rattle.pyc_cli.proofs.Works.{does_usage, exec_set, expand_set, disasm_set}
 
 -- ---- the ends of a call
 
@@ -214,6 +214,7 @@ found_sets order names (Some source) left t (inr says) =
 verb_sets_only : (v : Verb) (order : Order) (names : Option Names) (left : Option (List ℕ)) (t : Told) → TellsVerb v order names left t → SetsOnly (verb_sets v order.second) t.set
 verb_sets_only verbs.Exec order names left t says = inl (exec_set order.limits order.first names left t says)
 verb_sets_only verbs.Run order names left t says = found_sets order names says.held left t says.next
+verb_sets_only verbs.Expand order names left t says = inl (expand_set order.first names left t says)
 verb_sets_only verbs.Disasm order names left t says = inl (disasm_set order.first names left t says)
 
 tells_sets : (asked : Option Order) (names : Option Names) (left : Option (List ℕ)) (t : Told) → Tells asked names left t → SetsOnly (name_set asked) t.set

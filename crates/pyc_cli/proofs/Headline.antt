@@ -6,6 +6,7 @@ use Rattle.std.proofs.lemmas.List.{take_all}
 use Rattle.outside_io.specs.Causes.{Rose}
 use Rattle.outside_io.specs.Views.{Names, Sunk}
 use Rattle.outside_io.specs.Names.{cut, ChangesTold}
+use Rattle.lisp_reader.specs.Answers.{greatest_length}
 use Rattle.pyc_cli.specs.declared.command.Verb.{Verb}
 use Rattle.pyc_cli.specs.declared.command.Verb.TheVariants as verbs
 use Rattle.pyc_cli.specs.declared.moving.Wrote.{Wrote}
@@ -156,10 +157,11 @@ source_held (Some xs) source n is short =
     ap Some (whole_front xs source n front short)
 
 made_of : (order : Order) (image text : List ℕ) (old new : Option Names) → IfSome old (λ n. cut 1048577 (n order.first) ≡ Some text) → IsImageOf text image → ChangesTold old new order.second (λ held. held ≡ Some image) → MadeOf order.first order.second old new
+unfolding greatest_length
 made_of order image text None new had is set = tt
 made_of order image text (Some old) None had is set = absurd set
 made_of order image text (Some old) (Some new) had is set =
-    let few : length text ≤ 4096 = is.is_program.short in
+    let few : length text ≤ 1048576 = is.is_program.reads.short in
     record {
       source = text;
       image = image;
@@ -191,6 +193,7 @@ usage_never c t input old new is k w = was_set (Rose old.files.gets new.files.ge
 by_verb : (v : Verb) (order : Order) (c : Close) (old new : Outside) → Closed (Rose old.files.gets new.files.gets) (Rose old.files.sets new.files.sets) c → Late (λ names left t. TellsVerb v order names left t) c old new → verb_makes v order old.files.names new.files.names
 by_verb verbs.Exec order c old new k l = tt
 by_verb verbs.Run order c old new k l = late_makes order c old new k l
+by_verb verbs.Expand order c old new k l = tt
 by_verb verbs.Disasm order c old new k l = tt
 
 by_order : (asked : Option Order) (c : Close) (old new : Outside) → Closed (Rose old.files.gets new.files.gets) (Rose old.files.sets new.files.sets) c → Early (gets_first asked) c old new ⊎ Late (Tells asked) c old new → Makes asked old.files.names new.files.names

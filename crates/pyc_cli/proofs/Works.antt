@@ -9,11 +9,14 @@ use Rattle.outside_io.specs.Causes.{Rose}
 use Rattle.outside_io.specs.Views.{Names, Kept, Fed, Sunk}
 use Rattle.outside_io.specs.Names.{cut, ChangesTold}
 use Rattle.pyc_cli.specs.Ending.{Ending, Close, told, read_fault, write_fault, memory, refused, absent, usage}
-use Rattle.pyc_cli.specs.Making.{IsRefused, IsImageOf}
+use Rattle.core_form.specs.Lawful.{Parts}
+use Rattle.core_form.specs.Text.{program_text}
+use Rattle.source_programs.specs.Programs.{IsProgramOf}
+use Rattle.pyc_cli.specs.Making.{IsNoProgram, IsRefused, IsImageOf}
 use Rattle.pyc_cli.specs.Moved.{Left, GainsFront, IsCut}
 use Rattle.pyc_cli.specs.Order.{Order, Limits}
 use Rattle.pyc_cli.specs.Stages.{Runs, RunLeaves, GetKeeps, Misses}
-use Rattle.pyc_cli.specs.Told.{Told, IsSet, stops, image_asked, told_image, told_listing, TellsInput, TellsBytes, TellsFound, TellsName, TellsExec, TellsSet, TellsSource, TellsDisasm}
+use Rattle.pyc_cli.specs.Told.{Told, IsSet, stops, image_asked, told_image, told_listing, told_written, TellsInput, TellsBytes, TellsFound, TellsName, TellsExec, TellsSet, TellsSource, TellsProgram, TellsExpand, TellsDisasm}
 use Rattle.pyc_cli.specs.Work.{Outside, outside, Whole, Works, GetFault, TakeFault, IsTorn, Early, Late, Does, Writes}
 use Rattle.pyc_cli.proofs.Inputs.{some_input, known, left_stays, front_none, image_set}
 use Rattle.pyc_cli.proofs.Pieces.{gained_none, cut_stays}
@@ -77,6 +80,19 @@ does_listed bytes c files input out_old out_new puts w = record {
     told = told_listing (image_of bytes) (some_input input.left);
     tells = (some_input input.left, known input.left, refl);
     works = works_text (told_listing (image_of bytes) (some_input input.left)) c files input out_old out_new (listing_set (image_of bytes) (some_input input.left)) (listing_left (image_of bytes) input.left) (w (some_input input.left));
+  });
+  later = record { gets = omega arith; sets = omega arith; takes = omega arith; puts = puts };
+}
+
+-- the text of the program that a source is is written
+pub does_expanded : (source : List ℕ) (program : Parts) (c : Close) (files : Kept) (input : Fed) (out_old out_new : Sunk)
+    → IsProgramOf source program → out_old.faults ≤ out_new.faults → ((l : List ℕ) → Writes (told_written (program_text program) l) c out_old out_new)
+    → Does false (λ names left t. TellsProgram source left t) c (outside files input out_old) (outside files input out_new)
+does_expanded source program c files input out_old out_new is puts w = record {
+  work = inr (record {
+    told = told_written (program_text program) (some_input input.left);
+    tells = inr (program, is, (some_input input.left, known input.left, refl));
+    works = works_text (told_written (program_text program) (some_input input.left)) c files input out_old out_new refl (left_stays input.left) (w (some_input input.left));
   });
   later = record { gets = omega arith; sets = omega arith; takes = omega arith; puts = puts };
 }
@@ -204,6 +220,14 @@ found_set limits name (Some bytes) left t says = bytes_set limits bytes left t s
 pub exec_set : (limits : Limits) (name : List ℕ) (names : Option Names) (left : Option (List ℕ)) (t : Told) → TellsExec limits name names left t → t.set ≡ None
 exec_set limits name names left t says = found_set limits name says.held left t says.next
 
+pub expand_set : (name : List ℕ) (names : Option Names) (left : Option (List ℕ)) (t : Told) → TellsExpand name names left t → t.set ≡ None
+expand_set name names left t says = from says.held says.next
+  where
+    from : (held : Option (List ℕ)) → TellsFound (λ source u. TellsProgram source left u) name held left t → t.set ≡ None
+    from None h = ap (λ (u : Told). u.set) h.2
+    from (Some source) (inl h) = ap (λ (u : Told). u.set) h.2.2
+    from (Some source) (inr h) = ap (λ (u : Told). u.set) h.2.2
+
 pub disasm_set : (name : List ℕ) (names : Option Names) (left : Option (List ℕ)) (t : Told) → TellsDisasm name names left t → t.set ≡ None
 disasm_set name names left t says = from says.held says.next
   where
@@ -328,6 +352,18 @@ does_torn order name image old_files new_files input out same is sets rose gets 
 pub does_refused : (order : Order) (source text : List ℕ) (files : Kept) (input : Fed) (out : Sunk) → IsRefused source text
     → Does false (λ names left t. TellsSource order source names left t) (told (refused text)) (outside files input out) (outside files input out)
 does_refused order source text files input out is = record {
+  work = inr (record {
+    told = stops (refused text) (some_input input.left);
+    tells = inl (text, is, (some_input input.left, known input.left, refl));
+    works = whole_stops (refused text) files files input out refl;
+  });
+  later = record { gets = omega arith; sets = omega arith; takes = omega arith; puts = omega arith };
+}
+
+-- it is no program
+pub does_no_program : (source text : List ℕ) (files : Kept) (input : Fed) (out : Sunk) → IsNoProgram source text
+    → Does false (λ names left t. TellsProgram source left t) (told (refused text)) (outside files input out) (outside files input out)
+does_no_program source text files input out is = record {
   work = inr (record {
     told = stops (refused text) (some_input input.left);
     tells = inl (text, is, (some_input input.left, known input.left, refl));

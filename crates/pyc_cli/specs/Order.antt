@@ -79,13 +79,14 @@ with_options (name ∷ number ∷ words) given = option_and_then (with_options w
 
 -- ---- commands
 
--- run IN OUT, exec IMAGE, disasm IMAGE: how many operands they have, and whether they take the options of a run
+-- run IN OUT, exec IMAGE, expand IN, disasm IMAGE: how many operands they have, and whether they take the options of a run
 abbrev pub shape_of : List ℕ → Option Shape
 shape_of word =
     if bytes_eq word (codes "run") then Some (record { verb = verbs.Run; operands = 2; runs = true })
     else (if bytes_eq word (codes "exec") then Some (record { verb = verbs.Exec; operands = 1; runs = true })
+    else (if bytes_eq word (codes "expand") then Some (record { verb = verbs.Expand; operands = 1; runs = false })
     else (if bytes_eq word (codes "disasm") then Some (record { verb = verbs.Disasm; operands = 1; runs = false })
-    else None))
+    else None)))
 
 abbrev pub is_operand : List ℕ → Bool
 is_operand word = nat_lt 0 (length word) && (nat_le (length word) 255 && not (starts_with nat_eq word (codes "--")))

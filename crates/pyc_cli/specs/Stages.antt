@@ -15,13 +15,16 @@ use Rattle.rv_machine.specs.declared.events.Event.TheVariants as event
 use Rattle.rv_machine.specs.declared.machine.Machine.{Machine}
 use Rattle.pyc_cli.specs.declared.words.WordFault.{WordFault}
 use Rattle.pyc_cli.specs.declared.words.WordFault.TheVariants as words
-use Rattle.pyc_cli.specs.Making.{IsRefused, IsImageOf}
+use Rattle.pyc_cli.specs.Making.{IsNoProgram, IsRefused, IsImageOf}
 use Rattle.pyc_cli.specs.Moved.{Left, GainsFront, TakesFront, IsCut}
 use Rattle.pyc_cli.specs.Told.{Told}
 use Rattle.pyc_cli.specs.declared.moving.Step.{Step}
 use Rattle.pyc_cli.specs.declared.moving.Step.TheVariants as step
 use Rattle.pyc_cli.specs.declared.making.Compiled.{Compiled}
 use Rattle.pyc_cli.specs.declared.making.Compiled.TheVariants as compiled
+use Rattle.pyc_cli.specs.declared.making.Expanded.{Expanded}
+use Rattle.pyc_cli.specs.declared.making.Expanded.TheVariants as expanded
+use Rattle.source_programs.specs.Programs.{IsProgramOf}
 
 -- some more of a source is added to bytes, at most so much
 pub record Adds (old new : Fed) (before after : List ℕ) (most : ℕ) : Type 0 where
@@ -49,6 +52,12 @@ Misses limit name old new (told e) = (e ≡ absent name) × IfSome old.names (λ
 Misses limit name old new read_fault = Rose old.gets new.gets
 Misses limit name old new write_fault = ⊥
 Misses limit name old new memory = Unit {0}
+
+-- what a source is expanded to
+abbrev pub Expands : List ℕ → Expanded → Type 0
+Expands source (expanded.Program program) = IsProgramOf source program
+Expands source (expanded.Refused text) = IsNoProgram source (string_bytes text)
+Expands source expanded.Memory = Unit {0}
 
 -- what a source is compiled to
 abbrev pub Compiles : List ℕ → Compiled → Type 0

@@ -2,6 +2,8 @@
 use Rattle.std.specs.Prelude.{◌≡◌, ℕ, ◌+◌, List, [], length, drop, Option, Some, None, IfSome, nat_lt, if◌then◌else◌, Bool, true, false, ◌⊎◌, Result, Ok, Err}
 use Rattle.std.specs.Str.{is_utf8, chars}
 use Rattle.std.specs.Str.Lossy.{utf8_valid_len}
+use Rattle.core_form.specs.Lawful.{Parts}
+use Rattle.core_form.specs.Text.{program_text}
 use Rattle.image.specs.Content.{Content}
 use Rattle.image.specs.Fields.{Fault}
 use Rattle.image.specs.Format.{image_of}
@@ -10,8 +12,9 @@ use Rattle.outside_io.specs.Views.{Names}
 use Rattle.outside_io.specs.Names.{cut, ChangesTold}
 use Rattle.pyc_cli.specs.Ending.{Ending, refused, absent, bad_image, not_text, too_long, written}
 use Rattle.pyc_cli.specs.Order.{Order, Limits}
-use Rattle.pyc_cli.specs.Making.{IsRefused, IsImageOf}
+use Rattle.pyc_cli.specs.Making.{IsNoProgram, IsRefused, IsImageOf}
 use Rattle.pyc_cli.specs.Running.{shown, end_of}
+use Rattle.source_programs.specs.Programs.{IsProgramOf}
 
 pub record Told : Type 0 where
   pub ending : Ending
@@ -60,6 +63,10 @@ TellsInput told left t = (input : List ℕ) × IfSome left (λ l. l ≡ input) �
 abbrev pub TellsBytes : Limits → List ℕ → Option (List ℕ) → Told → Type 0
 TellsBytes limits bytes left t = TellsInput (told_image limits (image_of bytes)) left t
 
+-- how many bytes of a source are asked for: one more than it may have
+abbrev pub source_asked : ℕ
+source_asked = 1048577
+
 -- how many bytes of an image are asked for: one more than the longest has
 unfoldable pub image_asked : ℕ
 image_asked = 40 + 134217728 + 67108864 + 268435456 + 1
@@ -95,11 +102,25 @@ TellsSource order source names left t =
 
 -- run IN OUT: what the store holds at IN is the source.
 abbrev pub TellsRun : Order → Option Names → Option (List ℕ) → Told → Type 0
-TellsRun order names left t = TellsName (λ source n l u. TellsSource order source n l u) 1048577 order.first names left t
+TellsRun order names left t = TellsName (λ source n l u. TellsSource order source n l u) source_asked order.first names left t
+
+-- A text is written, and the input stays.
+abbrev pub told_written : List ℕ → List ℕ → Told
+told_written text input = record (stops written input) { out = text }
+
+-- The text of the program that a source is is written.
+abbrev pub TellsProgram : List ℕ → Option (List ℕ) → Told → Type 0
+TellsProgram source left t =
+    ((text : List ℕ) × IsNoProgram source text × TellsInput (stops (refused text)) left t)
+    ⊎ ((program : Parts) × IsProgramOf source program × TellsInput (told_written (program_text program)) left t)
+
+-- expand IN: what the store holds at IN is the source.
+abbrev pub TellsExpand : List ℕ → Option Names → Option (List ℕ) → Told → Type 0
+TellsExpand name names left t = TellsName (λ source n l u. TellsProgram source l u) source_asked name names left t
 
 -- The listing of code is written.
 abbrev pub told_code : List ℕ → List ℕ → Told
-told_code code input = record (stops written input) { out = listing_of code }
+told_code code input = told_written (listing_of code) input
 
 abbrev pub told_listing : Result Content Fault → List ℕ → Told
 told_listing (Err fault) input = stops (bad_image fault.kind fault.offset) input

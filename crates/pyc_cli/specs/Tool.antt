@@ -7,7 +7,7 @@ use Rattle.pyc_cli.specs.Ending.{Close, told, usage, status_told, line_of}
 use Rattle.pyc_cli.specs.Making.{IsImageOf}
 use Rattle.pyc_cli.specs.Moved.{PutsAll}
 use Rattle.pyc_cli.specs.Order.{Order}
-use Rattle.pyc_cli.specs.Told.{Told, stops, TellsInput, TellsExec, TellsRun, TellsDisasm}
+use Rattle.pyc_cli.specs.Told.{Told, stops, TellsInput, TellsExec, TellsRun, TellsExpand, TellsDisasm}
 use Rattle.pyc_cli.specs.Work.{Outside, Whole, Does}
 use Rattle.pyc_cli.specs.Line.{Finishes}
 use Rattle.pyc_cli.specs.declared.status.Status.{Status}
@@ -19,6 +19,7 @@ use Rattle.pyc_cli.specs.declared.moving.Wrote.{Wrote}
 abbrev pub TellsVerb : Verb → Order → Option Names → Option (List ℕ) → Told → Type 0
 TellsVerb verbs.Exec order names left t = TellsExec order.limits order.first names left t
 TellsVerb verbs.Run order names left t = TellsRun order names left t
+TellsVerb verbs.Expand order names left t = TellsExpand order.first names left t
 TellsVerb verbs.Disasm order names left t = TellsDisasm order.first names left t
 
 abbrev pub Tells : Option Order → Option Names → Option (List ℕ) → Told → Type 0
@@ -29,6 +30,7 @@ Tells (Some order) names left t = TellsVerb order.verb order names left t
 abbrev pub verb_gets_first : Verb → Bool
 verb_gets_first verbs.Exec = true
 verb_gets_first verbs.Run = true
+verb_gets_first verbs.Expand = true
 verb_gets_first verbs.Disasm = true
 
 abbrev pub gets_first : Option Order → Bool
@@ -61,6 +63,7 @@ pub record AsTold (asked : Option Order) (s : Status) (old new : Outside) (err_o
 abbrev pub verb_sets : Verb → List ℕ → Option (List ℕ)
 verb_sets verbs.Exec second = None
 verb_sets verbs.Run second = Some second
+verb_sets verbs.Expand second = None
 verb_sets verbs.Disasm second = None
 
 abbrev pub name_set : Option Order → Option (List ℕ)
@@ -116,6 +119,7 @@ MadeOf first second (Some old) (Some new) = IsMade (old first) (new second)
 abbrev pub verb_makes : Verb → Order → Option Names → Option Names → Type 0
 verb_makes verbs.Exec order old new = Unit {0}
 verb_makes verbs.Run order old new = MadeOf order.first order.second old new
+verb_makes verbs.Expand order old new = Unit {0}
 verb_makes verbs.Disasm order old new = Unit {0}
 
 -- where the store tells its names

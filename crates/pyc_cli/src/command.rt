@@ -8,6 +8,8 @@ pub enum Verb {
     Run,
     /// Runs an image.
     Exec,
+    /// Writes what a file expands to, a line a form.
+    Expand,
     /// Lists the code of an image, a line an instruction.
     Disasm,
 }

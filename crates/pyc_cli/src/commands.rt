@@ -7,7 +7,7 @@ ghost use Rattle.pyc_cli.specs.View.{close_of, limits, order};
 ghost use Rattle.pyc_cli.specs.Work.{Writes, Does, outside};
 
 use crate::command::Command;
-use crate::fetching::{fetch, fetch_image};
+use crate::fetching::{fetch_image, fetch_source};
 use crate::making::{Compiled, compile};
 use crate::moving::{Input, take_input};
 use crate::outcome::{Outcome, bad_image};
@@ -16,9 +16,6 @@ use image::Image;
 use outside_io::{SetAnswer, Sink, Source, Store};
 use std::alloc::Global;
 use std::str;
-
-/// How many bytes of a source are asked for: one more than it may have.
-const SOURCE_ASKED: usize = 1_048_577;
 
 /// Runs an image on an input that is to be text.
 fn run_text<'a, O: Sink>(
@@ -152,7 +149,7 @@ pub fn run<'a, F: Store, I: Source, O: Sink>(
 ) -> Outcome<'a>
     ensures { Does true (λ names left t. TellsRun (order command.now) names left t) (close_of result) (outside (F.kept files.old) (I.fed input.old) (O.sunk out.old)) (outside (F.kept files.new) (I.fed input.new) (O.sunk out.new)) }
 {
-    match fetch(files, command.first.as_str(), SOURCE_ASKED) {
+    match fetch_source(files, command.first.as_str()) {
         Ok(source) => run_source(alloc, command, &source, files, input, out),
         Err(outcome) => outcome,
     }

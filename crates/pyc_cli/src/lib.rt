@@ -4,6 +4,7 @@
 
 mod command;
 mod commands;
+mod expanded;
 mod fetching;
 mod line;
 mod listed;
@@ -11,10 +12,12 @@ mod making;
 mod moving;
 mod options;
 mod outcome;
+mod refusal_texts;
 mod running;
 mod status;
 mod top;
 mod words;
+mod written;
 
 pub use command::{Command, Verb};
 pub use status::Status;

@@ -8,8 +8,8 @@ ghost use Rattle.pyc_cli.specs.Work.{Writes, Does, outside};
 
 use crate::command::Command;
 use crate::fetching::fetch_image;
-use crate::moving::{Wrote, put_all};
 use crate::outcome::{Outcome, bad_image};
+use crate::written::write_text;
 use listing::text::listing;
 use outside_io::{Sink, Store};
 use std::alloc::Global;
@@ -20,11 +20,7 @@ fn list_code<'a, O: Sink>(alloc: Global, code: &[u8], out: &mut O) -> Outcome<'a
     ensures later { (O.sunk out.old).faults ≤ (O.sunk out.new).faults }
 {
     match listing(alloc, code) {
-        Ok(text) => match put_all(out, text.as_bytes()) {
-            Wrote::All => Outcome::Written,
-            Wrote::Failed => Outcome::WriteFault,
-            Wrote::Memory => Outcome::Memory,
-        },
+        Ok(text) => write_text(text.as_str(), out),
         Err(_) => Outcome::Memory,
     }
 }

@@ -8,6 +8,7 @@ ghost use Rattle.pyc_cli.specs.Work.{Does, outside};
 
 use crate::command::{Command, Verb};
 use crate::commands::{exec, run};
+use crate::expanded::expand;
 use crate::line::put_line;
 use crate::listed::disasm;
 use crate::outcome::Outcome;
@@ -39,6 +40,7 @@ pub fn perform<'a, F: Store, I: Source, O: Sink>(
     match command.verb {
         Verb::Exec => exec(alloc, command, files, input, out),
         Verb::Run => run(alloc, command, files, input, out),
+        Verb::Expand => expand(alloc, command, files, out),
         Verb::Disasm => disasm(alloc, command, files, out),
     }
 }

@@ -53,6 +53,11 @@ fn shape_of(word: &str) -> Option<Shape>
             operands: 1,
             runs: true,
         }),
+        "expand" => Some(Shape {
+            verb: Verb::Expand,
+            operands: 1,
+            runs: false,
+        }),
         "disasm" => Some(Shape {
             verb: Verb::Disasm,
             operands: 1,
@@ -123,8 +128,8 @@ fn shaped(alloc: Global, shape: Shape, words: &[String]) -> Result<Command, Word
 
 /// The command that the words ask for; `Usage` exactly where they are outside the grammar: the
 /// command, its operands, and then the options of a run in any order, each at most once.
-/// So far `run IN OUT`, `exec IMAGE` and `disasm IMAGE`, of which the first two take options:
-/// `--steps N`, `--heap N` and `--stack N`.
+/// So far `run IN OUT`, `exec IMAGE`, `expand IN` and `disasm IMAGE`, of which the first two take
+/// options: `--steps N`, `--heap N` and `--stack N`.
 pub fn parse_words(alloc: Global, words: &[String]) -> Result<Command, WordFault>
     ensures { Parses (order_of (map string_bytes words.now)) result }
 {

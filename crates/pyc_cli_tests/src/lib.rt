@@ -2,6 +2,16 @@
 #![tactic(auto)]
 
 #[cfg(test)]
+mod calls;
+#[cfg(test)]
+mod expansions;
+#[cfg(test)]
+mod form_tables;
+#[cfg(test)]
+mod refusals;
+#[cfg(test)]
+mod refused_tables;
+#[cfg(test)]
 mod runs;
 #[cfg(test)]
 mod words;

@@ -1,57 +1,9 @@
-use outside_io::{Calls, MemSink, MemSource, MemStore, Source, Took};
-use pyc_cli::{Status, tool};
+use crate::calls::{RUN, call};
+use outside_io::{Source, Took};
+use pyc_cli::Status;
 use std::alloc::Global;
 use std::process::Abort;
 use std::test::Fail;
-
-/// A call of the tool, and what it left.
-#[derive(Drop)]
-struct Leaves {
-    status: Status,
-    files: MemStore,
-    input: MemSource,
-    out: MemSink,
-    err: MemSink,
-}
-
-/// The numbers of the calls of an object that fail: none, or one of them.
-fn failing(alloc: Global, number: u64) -> Result<Calls, Fail> {
-    let mut calls = Vec::new(alloc);
-    if number > 0 {
-        calls.push(number)?;
-    }
-    Ok(calls)
-}
-
-/// Calls the tool with these words, where the store holds this source at `in`, and this call of each object fails.
-fn call(
-    alloc: Global,
-    words: &[&str],
-    source: &[u8],
-    input: &[u8],
-    fails: [u64; 4],
-) -> Result<Leaves, Fail> {
-    let [file_call, input_call, out_call, err_call] = fails;
-    let mut texts = Vec::new(alloc);
-    for word in words {
-        texts.push(String::from_str(alloc, word)?)?;
-    }
-    let mut files = MemStore::new(alloc, failing(alloc, file_call)?);
-    files.add("in", source)?;
-    let mut input = MemSource::new(input.to_vec(alloc)?, 4096, failing(alloc, input_call)?);
-    let mut out = MemSink::new(alloc, 2, failing(alloc, out_call)?);
-    let mut err = MemSink::new(alloc, 3, failing(alloc, err_call)?);
-    let status = tool(alloc, &texts, &mut files, &mut input, &mut out, &mut err);
-    Ok(Leaves {
-        status,
-        files,
-        input,
-        out,
-        err,
-    })
-}
-
-const RUN: [&str; 3] = ["run", "in", "out"];
 
 const ECHO: &[u8] = b"(write-char (read-char nil nil))";
 
@@ -69,7 +21,7 @@ fn check(
     assert_eq!(rt; left.err.bytes(), err);
     assert_eq!(rt; left.status, status);
     assert_eq!(rt; left.out.bytes(), out);
-    assert_eq!(rt; left.files.look("out").is_some(), status != Status::Refused);
+    assert_eq!(rt; left.files.look("out").is_some(), true);
     Ok(())
 }
 
@@ -119,17 +71,12 @@ fn what_was_written_before_an_error_stays(rt: HostRuntime) -> Result<(), Fail> {
     check(&rt, rt.alloc(), typed, b"", Status::LispError, b"a", error)
 }
 
-#[test]
-fn a_source_is_refused(rt: HostRuntime) -> Result<(), Fail> {
-    check(
-        &rt,
-        rt.alloc(),
-        b"(car nil)",
-        b"",
-        Status::Refused,
-        b"",
-        b"refused NotYet at 0\n",
-    )
+/// A call of these words finds no `none`.
+fn is_absent(rt: &impl Abort, alloc: Global, words: &[&str]) -> Result<(), Fail> {
+    let left = call(alloc, words, b"", b"", [0, 0, 0, 0])?;
+    assert_eq!(rt; left.status, Status::Absent);
+    assert_eq!(rt; left.err.bytes(), b"absent none\n".as_slice());
+    Ok(())
 }
 
 #[test]
@@ -140,9 +87,8 @@ fn words_and_names_are_told(rt: HostRuntime) -> Result<(), Fail> {
         left.err.bytes(),
         b"usage: pyc compile IN OUT | exec IMAGE | run IN OUT | expand IN | disasm IMAGE | bench N OUT\n".as_slice()
     );
-    let left = call(rt.alloc(), &["run", "none", "out"], b"", b"", [0, 0, 0, 0])?;
-    assert_eq!(rt; left.status, Status::Absent);
-    assert_eq!(rt; left.err.bytes(), b"absent none\n".as_slice());
+    is_absent(&rt, rt.alloc(), &["run", "none", "out"])?;
+    is_absent(&rt, rt.alloc(), &["expand", "none"])?;
     let left = call(rt.alloc(), &["run", "in", "--out"], b"", b"", [0, 0, 0, 0])?;
     assert_eq!(rt; left.status, Status::Usage);
     Ok(())

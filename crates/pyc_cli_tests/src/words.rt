@@ -57,6 +57,7 @@ fn commands_have_their_operands(rt: HostRuntime) -> Result<(), Fail> {
     asks_for(&rt, alloc, "run in out", Verb::Run, ["in", "out"])?;
     asks_for(&rt, alloc, "exec x", Verb::Exec, ["x", ""])?;
     asks_for(&rt, alloc, "exec -x --steps 5", Verb::Exec, ["-x", ""])?;
+    asks_for(&rt, alloc, "expand in", Verb::Expand, ["in", ""])?;
     asks_for(&rt, alloc, "disasm run", Verb::Disasm, ["run", ""])?;
     assert_eq!(rt; parse_words(alloc, &[]).err(), Some(WordFault::Usage));
     for line in [
@@ -66,6 +67,9 @@ fn commands_have_their_operands(rt: HostRuntime) -> Result<(), Fail> {
         "run in out more",
         "exec",
         "exec x y",
+        "expand",
+        "expand x y",
+        "expands x",
         "disasm",
         "disasm x y",
         "Run in out",
@@ -157,6 +161,7 @@ fn options_follow_the_operands_once_each(rt: HostRuntime) -> Result<(), Fail> {
         "exec x 5 --steps",
         "exec --steps 5 x",
         "run in --steps 5 out",
+        "expand x --steps 5",
         "disasm x --steps 5",
         "disasm x --heap 16",
     ] {
