@@ -55,6 +55,7 @@ pub(crate) fn after(number: u32) -> Result<u32, AllocError>
 }
 
 /// A form for the value of a variable, with its checks.
+#[inline(never)]
 pub(crate) fn checked_form(
     alloc: Global,
     types: &[TypeSpec],
@@ -156,6 +157,7 @@ impl Scope {
     }
 
     /// Local functions, for their definitions, if they may be called there.
+    #[inline(never)]
     pub(crate) fn add_before(
         &mut self,
         reach: Reach,
@@ -170,6 +172,7 @@ impl Scope {
     }
 
     /// The same, for the body after their definitions.
+    #[inline(never)]
     pub(crate) fn add_after(
         &mut self,
         reach: Reach,
@@ -184,6 +187,7 @@ impl Scope {
     }
 
     /// The tags of a TAGBODY, with their numbers from this one on.
+    #[inline(never)]
     pub(crate) fn add_tags(&mut self, number: u32, items: &[Val]) -> Result<(), AllocError>
         ensures { OnOk result (scope_of self.new ≡ definition.with_tags number items.now (scope_of self.old)) }
     {
@@ -198,6 +202,7 @@ impl Scope {
     }
 
     /// Variables that a function requires.
+    #[inline(never)]
     pub(crate) fn add_required(
         &mut self,
         alloc: Global,
@@ -213,6 +218,7 @@ impl Scope {
     }
 
     /// Variables of bindings.
+    #[inline(never)]
     pub(crate) fn add_initials(
         &mut self,
         alloc: Global,
@@ -228,6 +234,7 @@ impl Scope {
     }
 
     /// A variable that may be missing.
+    #[inline(never)]
     pub(crate) fn add_some(
         &mut self,
         alloc: Global,
@@ -243,6 +250,7 @@ impl Scope {
     }
 
     /// An optional parameter, and the variable that tells whether an argument was given.
+    #[inline(never)]
     pub(crate) fn add_optional(
         &mut self,
         alloc: Global,
@@ -275,6 +283,7 @@ impl Beginning {
     }
 
     /// The function with the forms for its optional parameters and its body.
+    #[inline(never)]
     pub(crate) fn complete(
         self,
         alloc: Global,
@@ -296,6 +305,7 @@ impl Beginning {
 
 impl World {
     /// A node of one part.
+    #[inline(never)]
     pub(crate) fn begin_unary(
         &mut self,
         levels: u32,
@@ -311,6 +321,7 @@ impl World {
 
     /// A node that takes numbers.
     #[tactic(auto, unfolding(crate::specs::Beginnings::begin_numbers, crate::specs::Stepping::steps))]
+    #[inline(never)]
     pub(crate) fn begin_numbers(
         &mut self,
         count: u32,
@@ -326,6 +337,7 @@ impl World {
 
     /// A node of bindings, with their parameters.
     #[tactic(auto, unfolding(crate::specs::Beginnings::begin_bindings, crate::specs::Stepping::steps))]
+    #[inline(never)]
     pub(crate) fn begin_bindings(
         &mut self,
         alloc: Global,
@@ -342,6 +354,7 @@ impl World {
 
     /// A node of local functions, with their names and numbers.
     #[tactic(auto, unfolding(crate::specs::Beginnings::begin_functions, crate::specs::Stepping::steps))]
+    #[inline(never)]
     pub(crate) fn begin_functions(
         &mut self,
         alloc: Global,
@@ -380,6 +393,7 @@ impl World {
 
     /// A node of a function, with its parameters.
     #[tactic(auto, unfolding(crate::specs::Beginnings::begin_function, crate::specs::Beginnings::begin_made, crate::specs::Stepping::steps))]
+    #[inline(never)]
     pub(crate) fn begin_function(
         &mut self,
         alloc: Global,
@@ -400,6 +414,7 @@ impl World {
 
     /// A node of tags, with the number of the first.
     #[tactic(auto, unfolding(crate::specs::Beginnings::begin_tags))]
+    #[inline(never)]
     pub(crate) fn begin_tags(
         &mut self,
         levels: u32,
@@ -416,6 +431,7 @@ impl World {
 impl Expander {
     /// The name and the function of a definition. The scope becomes the definition's.
     #[tactic(auto, unfolding(crate::specs::Beginnings::read_definition, crate::specs::Beginnings::read_definition_in, crate::specs::Stepping::steps))]
+    #[inline(never)]
     pub(crate) fn read_definition(
         &mut self,
         alloc: Global,

@@ -23,6 +23,7 @@ pub struct Contents {
 }
 
 /// The refusal of the form that is being expanded.
+#[inline(never)]
 pub(crate) fn refusal(kind: ExpandKind, scope: &Scope) -> Fault
     ensures { result ≡ Fault.Refused kind scope.now.place }
 {

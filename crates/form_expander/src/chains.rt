@@ -36,6 +36,7 @@ pub(crate) struct Led {
 
 impl Expander {
     /// What is to be done with a form. The scope becomes the form's.
+    #[inline(never)]
     fn plan(&mut self, alloc: Global, form: Val) -> Result<Plan, Fault>
         ensures follows { Follows plan_from (plan_for (at_form self.old.world.heap form (scope_of self.old.scope)) form (world_of self.old.world)) result (world_of self.new.world) }
         ensures scope { scope_of self.new.scope ≡ at_form self.old.world.heap form (scope_of self.old.scope) }
@@ -46,6 +47,7 @@ impl Expander {
     }
 
     /// What stands for a form. The scope becomes that of it.
+    #[inline(never)]
     fn next(&mut self, alloc: Global, form: Val) -> Result<Next, Fault>
         ensures follows { Follows (next_from (scope_of self.new.scope)) (stepped (scope_of self.old.scope) form (world_of self.old.world)) result (world_of self.new.world) }
         ensures keeps { Keeps self.old.world self.new.world }
@@ -61,6 +63,7 @@ impl Expander {
     }
 
     /// Where the chain of forms from this one leads to. The scope becomes that of it.
+    #[inline(never)]
     pub(crate) fn lead(
         &mut self,
         alloc: Global,

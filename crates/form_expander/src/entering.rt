@@ -68,6 +68,7 @@ impl Scope {
     }
 
     /// Takes away what was added after the mark.
+    #[inline(never)]
     pub fn leave(&mut self, mark: Mark)
         ensures { scope_of self.new ≡ cut mark (scope_of self.old) }
     {
@@ -82,6 +83,7 @@ impl Scope {
 
     /// Goes to the place of a form.
     #[tactic(auto, unfolding(expansion::specs::Scopes::at_form))]
+    #[inline(never)]
     pub fn enter_form(&mut self, heap: &Heap, form: Val)
         ensures { scope_of self.new ≡ plain.at_form heap.now form (scope_of self.old) }
     {
@@ -92,6 +94,7 @@ impl Scope {
     ///
     /// # Errors
     /// Want of memory alone.
+    #[inline(never)]
     pub(crate) fn add_function(&mut self, name: SymId, number: u32) -> Result<(), AllocError>
         ensures { OnOk result (scope_of self.new ≡ plain.with_function name number (scope_of self.old)) }
     {
@@ -103,6 +106,7 @@ impl Scope {
     ///
     /// # Errors
     /// Want of memory alone.
+    #[inline(never)]
     pub(crate) fn add_block(&mut self, name: SymId, number: u32) -> Result<(), AllocError>
         ensures { OnOk result (scope_of self.new ≡ plain.with_block name number (scope_of self.old)) }
     {
@@ -164,6 +168,7 @@ impl Scope {
     /// # Errors
     /// Want of memory alone.
     #[tactic(auto, unfolding(expansion::specs::Scopes::declared_in))]
+    #[inline(never)]
     pub fn add_declared(&mut self, alloc: Global, declared: &Declared) -> Result<(), AllocError>
         ensures { OnOk result (scope_of self.new ≡ plain.declared_in (declared_of declared.now) (scope_of self.old)) }
     {

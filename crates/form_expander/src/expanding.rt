@@ -1,4 +1,7 @@
 //! The tree that a form expands to: each form before its parts, from left to right.
+//!
+//! A form within the limits nests some thousands of calls of these functions. None is inlined into
+//! another, nor what they call, so that a call's frame holds what that call needs and no more.
 
 ghost use Rattle.std.specs.Prelude.{◌≡◌, IfOk, map, suc};
 ghost use Rattle.core_form.specs.Reading.{core_of, cores_list, lambda_of, parameter_of};
@@ -43,6 +46,7 @@ const MOST_FUEL: u32 = 4_000_000;
 impl Expander {
     /// A node without parts.
     #[tactic(auto, unfolding(crate::specs::Beginnings::leaf_made, crate::specs::Stepping::steps))]
+    #[inline(never)]
     fn make_leaf(&mut self, levels: u32, leaf: Leaf) -> Result<Core, Fault>
         ensures follows { Follows core_of (leaf_made levels (scope_of self.old.scope) leaf (world_of self.old.world)) result (world_of self.new.world) }
         ensures scope { self.new.scope ≡ self.old.scope }
@@ -55,6 +59,7 @@ impl Expander {
     /// A node of one part.
     #[cycle(expanding)]
     #[tactic(auto, using(crate::proofs::Keeping::keeps_on, crate::proofs::Keeping::keeps_still), unfolding(expansion::specs::Expanding::make, crate::specs::Stepping::steps))]
+    #[inline(never)]
     fn make_one(
         &mut self,
         alloc: Global,
@@ -75,6 +80,7 @@ impl Expander {
     /// A node of two parts.
     #[cycle(expanding)]
     #[tactic(auto, using(crate::proofs::Keeping::keeps_on, crate::proofs::Keeping::keeps_still), unfolding(expansion::specs::Expanding::make, crate::specs::Stepping::steps))]
+    #[inline(never)]
     fn make_two(
         &mut self,
         alloc: Global,
@@ -97,6 +103,7 @@ impl Expander {
     /// The choice between two parts by a third.
     #[cycle(expanding)]
     #[tactic(auto, using(crate::proofs::Keeping::keeps_on, crate::proofs::Keeping::keeps_still), unfolding(expansion::specs::Expanding::make, crate::specs::Stepping::steps))]
+    #[inline(never)]
     fn make_choice(
         &mut self,
         alloc: Global,
@@ -120,6 +127,7 @@ impl Expander {
     /// Parts, from left to right.
     #[cycle(expanding)]
     #[tactic(auto, using(crate::proofs::Keeping::keeps_on, crate::proofs::Keeping::keeps_still))]
+    #[inline(never)]
     fn make_each(
         &mut self,
         alloc: Global,
@@ -141,6 +149,7 @@ impl Expander {
     /// A node of any number of parts.
     #[cycle(expanding)]
     #[tactic(auto, using(crate::proofs::Keeping::keeps_on, crate::proofs::Keeping::keeps_still), unfolding(expansion::specs::Expanding::make, crate::specs::Stepping::steps))]
+    #[inline(never)]
     fn make_many(
         &mut self,
         alloc: Global,
@@ -161,6 +170,7 @@ impl Expander {
     /// A node of a part that gives a function, and of others.
     #[cycle(expanding)]
     #[tactic(auto, using(crate::proofs::Keeping::keeps_on, crate::proofs::Keeping::keeps_still), unfolding(expansion::specs::Expanding::make, crate::specs::Stepping::steps))]
+    #[inline(never)]
     fn make_calling(
         &mut self,
         alloc: Global,
@@ -183,6 +193,7 @@ impl Expander {
     /// The forms for the values of bindings, with the checks of their variables.
     #[cycle(expanding)]
     #[tactic(auto, using(crate::proofs::Keeping::keeps_on, crate::proofs::Keeping::keeps_still))]
+    #[inline(never)]
     fn make_values(
         &mut self,
         alloc: Global,
@@ -210,6 +221,7 @@ impl Expander {
     /// Bindings round a body. The scope becomes that of the body.
     #[cycle(expanding)]
     #[tactic(auto, using(crate::proofs::Keeping::keeps_on, crate::proofs::Keeping::keeps_still), unfolding(expansion::specs::Expanding::binding_node, crate::specs::Beginnings::begin_bindings, crate::specs::Stepping::steps))]
+    #[inline(never)]
     fn make_bind(
         &mut self,
         alloc: Global,
@@ -236,6 +248,7 @@ impl Expander {
     /// that within all of them.
     #[cycle(expanding)]
     #[tactic(auto, using(crate::proofs::Keeping::keeps_on, crate::proofs::Keeping::keeps_still))]
+    #[inline(never)]
     fn make_defaults(
         &mut self,
         alloc: Global,
@@ -260,6 +273,7 @@ impl Expander {
     /// A function. The scope becomes that of its body.
     #[cycle(expanding)]
     #[tactic(auto, using(crate::proofs::Keeping::keeps_on, crate::proofs::Keeping::keeps_still))]
+    #[inline(never)]
     fn make_function(
         &mut self,
         alloc: Global,
@@ -292,6 +306,7 @@ impl Expander {
     /// A local function, by its definition.
     #[cycle(expanding)]
     #[tactic(auto, using(crate::proofs::Keeping::keeps_on, crate::proofs::Keeping::keeps_still))]
+    #[inline(never)]
     fn make_definition(
         &mut self,
         alloc: Global,
@@ -320,6 +335,7 @@ impl Expander {
     /// Local functions, whose numbers follow one another from this one on.
     #[cycle(expanding)]
     #[tactic(auto, using(crate::proofs::Keeping::keeps_on, crate::proofs::Keeping::keeps_still))]
+    #[inline(never)]
     fn make_definitions(
         &mut self,
         alloc: Global,
@@ -344,6 +360,7 @@ impl Expander {
     /// Local functions round a body. The scope becomes that of the body.
     #[cycle(expanding)]
     #[tactic(auto, using(crate::proofs::Keeping::keeps_on, crate::proofs::Keeping::keeps_still))]
+    #[inline(never)]
     fn make_functions(
         &mut self,
         alloc: Global,
@@ -372,6 +389,7 @@ impl Expander {
     /// A local function as a value, within its own definition.
     #[cycle(expanding)]
     #[tactic(auto, using(crate::proofs::Keeping::keeps_on, crate::proofs::Keeping::keeps_still), unfolding(expansion::specs::Expanding::recursive_node, crate::specs::Beginnings::begin_numbers, crate::specs::Stepping::steps))]
+    #[inline(never)]
     fn make_recursive(
         &mut self,
         alloc: Global,
@@ -396,6 +414,7 @@ impl Expander {
     /// A block round a body. The scope becomes that of the body.
     #[cycle(expanding)]
     #[tactic(auto, using(crate::proofs::Keeping::keeps_on, crate::proofs::Keeping::keeps_still), unfolding(expansion::specs::Expanding::block_node, crate::specs::Beginnings::begin_numbers, crate::specs::Stepping::steps))]
+    #[inline(never)]
     fn make_block(
         &mut self,
         alloc: Global,
@@ -418,6 +437,7 @@ impl Expander {
     /// The tags and forms of a TAGBODY, with numbers of its tags from this one on.
     #[cycle(expanding)]
     #[tactic(auto, using(crate::proofs::Keeping::keeps_on, crate::proofs::Keeping::keeps_still))]
+    #[inline(never)]
     fn make_items(
         &mut self,
         alloc: Global,
@@ -446,6 +466,7 @@ impl Expander {
     /// Tags and forms. The scope becomes that of the forms.
     #[cycle(expanding)]
     #[tactic(auto, using(crate::proofs::Keeping::keeps_on, crate::proofs::Keeping::keeps_still), unfolding(expansion::specs::Expanding::tagbody_node, crate::specs::Beginnings::begin_tags, crate::specs::Beginnings::begin_numbers, crate::specs::Stepping::steps))]
+    #[inline(never)]
     fn make_tagbody(
         &mut self,
         alloc: Global,
@@ -467,6 +488,7 @@ impl Expander {
     /// The tree of a sketch, its parts with this fuel. The scope may become that of a part.
     #[cycle(expanding)]
     #[tactic(auto, using(crate::proofs::Keeping::keeps_on, crate::proofs::Keeping::keeps_still), unfolding(expansion::specs::Expanding::make, crate::specs::Stepping::steps))]
+    #[inline(never)]
     fn make_sketch(
         &mut self,
         alloc: Global,
@@ -521,6 +543,7 @@ impl Expander {
     /// The tree of a sketch, where so much fuel and so many levels are left.
     #[cycle(expanding)]
     #[tactic(auto, using(crate::proofs::Keeping::keeps_on, crate::proofs::Keeping::keeps_still))]
+    #[inline(never)]
     fn make(
         &mut self,
         alloc: Global,

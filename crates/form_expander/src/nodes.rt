@@ -30,6 +30,7 @@ fn at(place: Place, form: Form) -> Core
 }
 
 /// A node without parts.
+#[inline(never)]
 pub(crate) fn leaf_node(leaf: Leaf, place: Place) -> Core
     ensures { core_of result ≡ plain.leaf_node leaf place }
 {
@@ -44,6 +45,7 @@ pub(crate) fn leaf_node(leaf: Leaf, place: Place) -> Core
 }
 
 /// A node of one part.
+#[inline(never)]
 pub(crate) fn unary_node(
     alloc: Global,
     node: &Unary,
@@ -64,6 +66,7 @@ pub(crate) fn unary_node(
 }
 
 /// A node of two parts.
+#[inline(never)]
 pub(crate) fn binary_node(
     alloc: Global,
     node: Binary,
@@ -84,6 +87,7 @@ pub(crate) fn binary_node(
 }
 
 /// A node of any number of parts.
+#[inline(never)]
 pub(crate) fn many_node(node: Many, place: Place, parts: Vec<Core>) -> Core
     ensures { core_of result ≡ plain.many_node node place (cores_list parts.items) }
 {
@@ -99,6 +103,7 @@ pub(crate) fn many_node(node: Many, place: Place, parts: Vec<Core>) -> Core
 }
 
 /// A node of a part that gives a function, and of others.
+#[inline(never)]
 pub(crate) fn calling_node(
     alloc: Global,
     node: Calling,
@@ -118,6 +123,7 @@ pub(crate) fn calling_node(
 }
 
 /// Bindings round a body.
+#[inline(never)]
 pub(crate) fn binding_node(
     alloc: Global,
     place: Place,
@@ -132,6 +138,7 @@ pub(crate) fn binding_node(
 }
 
 /// A function as a value.
+#[inline(never)]
 pub(crate) fn function_node(place: Place, function: Lambda) -> Core
     ensures { core_of result ≡ tree.Function place (lambda_of function) }
 {
@@ -139,6 +146,7 @@ pub(crate) fn function_node(place: Place, function: Lambda) -> Core
 }
 
 /// Local functions round a body.
+#[inline(never)]
 pub(crate) fn functions_node(
     alloc: Global,
     place: Place,
@@ -153,6 +161,7 @@ pub(crate) fn functions_node(
 }
 
 /// A local function of this number and name as a value, within its own definition.
+#[inline(never)]
 pub(crate) fn recursive_node(
     alloc: Global,
     place: Place,
@@ -173,6 +182,7 @@ pub(crate) fn recursive_node(
 }
 
 /// A block round a body.
+#[inline(never)]
 pub(crate) fn block_node(
     alloc: Global,
     place: Place,
@@ -186,6 +196,7 @@ pub(crate) fn block_node(
 }
 
 /// Tags and forms.
+#[inline(never)]
 pub(crate) fn tagbody_node(place: Place, items: Vec<Item>) -> Core
     ensures { core_of result ≡ tree.Tagbody place (items_list items.items) }
 {
@@ -205,6 +216,7 @@ pub(crate) fn copy_types(alloc: Global, types: &[TypeSpec]) -> Result<Specs, All
 }
 
 /// A copy of a parameter.
+#[inline(never)]
 pub(crate) fn copy_parameter(alloc: Global, parameter: &Parameter) -> Result<Parameter, AllocError>
     ensures { IfOk result (λ copy. parameter_of copy ≡ parameter_of parameter.now) }
 {
@@ -230,6 +242,7 @@ fn copy_some(
 }
 
 /// An optional parameter with the form for its value.
+#[inline(never)]
 pub(crate) fn optional_part(
     alloc: Global,
     optional: &Optional,

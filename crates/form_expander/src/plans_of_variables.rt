@@ -75,6 +75,7 @@ fn set_target(
 /// # Errors
 /// Want of memory alone.
 #[tactic(auto, unfolding(expansion::specs::Forms::set_variable))]
+#[inline(never)]
 pub(crate) fn set_variable(
     world: &World,
     alloc: Global,

@@ -36,6 +36,7 @@ impl World {
     /// `TooManyNodes` where the form has more than 4,000 nodes with these, and `TooNested` where no
     /// level is left, both at the form that is being expanded.
     #[tactic(auto, unfolding(expansion::specs::Steps::begin, expansion::specs::Steps::begun, expansion::specs::Steps::most_nodes))]
+    #[inline(never)]
     pub(crate) fn begin(&mut self, count: u32, levels: u32, scope: &Scope) -> Result<(), Fault>
         ensures follows { Follows (λ _. tt) (begun_by count levels (scope_of scope.now) (world_of self.old)) result (world_of self.new) }
         ensures symbols { self.new.symbols ≡ self.old.symbols }
