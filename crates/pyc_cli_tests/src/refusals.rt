@@ -106,6 +106,31 @@ fn a_deep_form_is_refused(rt: HostRuntime) -> Result<(), Fail> {
     refused(&rt, alloc, nested.as_bytes(), b"refused TooNested at 0\n")
 }
 
+/// A form of so many parts is as deep as forms may be: with one part more it is refused.
+fn deepest(
+    rt: &impl Abort,
+    alloc: Global,
+    operator: &str,
+    part: &str,
+    count: usize,
+) -> Result<(), Fail> {
+    let source = repeated(alloc, operator, part, count, ")")?;
+    let left = call(alloc, &EXPAND, source.as_bytes(), b"", [0, 0, 0, 0])?;
+    assert_eq!(rt; left.err.bytes(), b"".as_slice());
+    assert_eq!(rt; left.status, Status::Done);
+    let deeper = repeated(alloc, operator, part, count + 1, ")")?;
+    unexpanded(rt, alloc, deeper.as_str(), "refused TooNested at 0\n")
+}
+
+#[test]
+fn the_deepest_macros_are_expanded(rt: HostRuntime) -> Result<(), Fail> {
+    let alloc = rt.alloc();
+    deepest(&rt, alloc, "(and", " 1", 1_000)?;
+    deepest(&rt, alloc, "(or", " 1", 500)?;
+    deepest(&rt, alloc, "(cond", " (1 2)", 999)?;
+    deepest(&rt, alloc, "(+", " 1", 1_000)
+}
+
 /// A function that closes over 60 variables, in so many copies.
 fn closed(alloc: Global, copies: usize) -> Result<String, Fail> {
     let mut bindings = String::new(alloc);
