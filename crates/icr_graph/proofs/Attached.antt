@@ -10,7 +10,7 @@ use Rattle.icr_graph.specs.declared.parts.Cont.{Cont}
 use Rattle.icr_graph.specs.declared.parts.Block.{Block}
 use Rattle.icr_graph.specs.declared.parts.Function.{Function}
 use Rattle.icr_graph.specs.declared.parts.Assertion.{Assertion}
-use Rattle.icr_graph.specs.Lists.{has_number, are_distinct, listed, numbers_of, changed}
+use Rattle.icr_graph.specs.Lists.{has_number, are_distinct, listed, those_there, numbers_of, changed}
 use Rattle.icr_graph.specs.Kinds.{operands_of, arrivals_of, entry_left, exits_of, variables_of, functions_of, is_entry_kind, is_exit_kind}
 use Rattle.icr_graph.specs.Plain.{FlowGraph, cont_of, uses_of, entries_of, entered_by, entry_left_at, exits_at}
 use Rattle.icr_graph.specs.Whole.{Mutual, IsWhole, are_variables, are_functions}
@@ -61,6 +61,8 @@ delivered_whole g n k allowed w =
       functions = λ a. ap (are_functions g) (node_kept (λ x. functions_of x.kind) (λ v. refl) a) ∙ w.functions a;
       parameters = w.parameters;
       closed = w.closed;
+      lambdas = w.lambdas;
+      code = w.code;
     }
   where
     node_kept : (p : Node → List ℕ) → ((v : Node) → p (delivering_to k v) ≡ p v) → (a : ℕ) → numbers_of p (changed (delivering_to k) n g.node a) ≡ numbers_of p (g.node a)
@@ -90,6 +92,8 @@ asserted_whole g k assertion w =
       functions = w.functions;
       parameters = w.parameters;
       closed = w.closed;
+      lambdas = w.lambdas;
+      code = w.code;
     }
 
 -- ---- an entry of a function
@@ -114,6 +118,8 @@ entered_whole g f b allowed w =
       functions = λ a. functions_there (numbers_of (λ x. functions_of x.kind) (g.node a)) (w.functions a);
       parameters = λ a. ap (are_variables g) (kept (λ (x : Function). x.parameters) (beginning_at b) f g.function (λ v. refl) a) ∙ w.parameters a;
       closed = λ a. ap (are_variables g) (kept (λ (x : Function). x.closed) (beginning_at b) f g.function (λ v. refl) a) ∙ w.closed a;
+      lambdas = functions_there (those_there g.lambdas) w.lambdas;
+      code = functions_there (listed g.code) w.code;
     }
   where
     block_kept : (p : Block → List ℕ) → ((v : Block) → p (entry_of_function f v) ≡ p v) → (a : ℕ) → numbers_of p (changed (entry_of_function f) b g.block a) ≡ numbers_of p (g.block a)
@@ -249,6 +255,8 @@ module _ (g : FlowGraph) (exit entry : ℕ) (is_ex : is_exit g exit ≡ true) (i
         functions = λ a. ap (are_functions g) (pair_kept functions_of (λ l e. refl) (λ x es. refl) a) ∙ w.functions a;
         parameters = w.parameters;
         closed = w.closed;
+        lambdas = w.lambdas;
+        code = w.code;
       }
 
 pub paired_whole : (g : FlowGraph) (exit entry : ℕ) → pair_fault g exit entry ≡ None → IsWhole g → IsWhole (paired exit entry g)

@@ -123,6 +123,8 @@ module _ (g : FlowGraph) (b : ℕ) (free : IsFree g b) (w : IsWhole g) where
         functions = w.functions;
         parameters = w.parameters;
         closed = w.closed;
+        lambdas = w.lambdas;
+        code = w.code;
       }
 
   -- a block that is not this one doesn't come before it

@@ -42,6 +42,8 @@ cont_built g k vacant w =
       functions = w.functions;
       parameters = w.parameters;
       closed = w.closed;
+      lambdas = w.lambdas;
+      code = w.code;
     }
 
 -- what is there is still there
@@ -69,4 +71,6 @@ variable_built g v variable w =
       functions = w.functions;
       parameters = λ f. more_there g.variable v variable (parameters_of g f) (w.parameters f);
       closed = λ f. more_there g.variable v variable (closed_of g f) (w.closed f);
+      lambdas = w.lambdas;
+      code = w.code;
     }

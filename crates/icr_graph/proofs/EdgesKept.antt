@@ -30,6 +30,8 @@ with_edges g block w nodes arriving entered edges =
       functions = w.functions;
       parameters = w.parameters;
       closed = w.closed;
+      lambdas = w.lambdas;
+      code = w.code;
     }
 
 module _ (g : FlowGraph) (from to : ℕ) (F G : Block → Block) where

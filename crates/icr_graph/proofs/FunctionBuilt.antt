@@ -4,7 +4,7 @@ use Rattle.std.proofs.lemmas.Bool.{cases_eq}
 use Rattle.ir_ids.specs.Entries.{with_entry}
 use Rattle.icr_graph.specs.declared.parts.Function.{Function}
 use Rattle.icr_graph.specs.declared.faults.EditFault.{EditFault}
-use Rattle.icr_graph.specs.Lists.{has_number, numbers_of}
+use Rattle.icr_graph.specs.Lists.{has_number, listed, those_there, numbers_of}
 use Rattle.icr_graph.specs.Plain.{FlowGraph, functions_at, entered_by}
 use Rattle.icr_graph.specs.Whole.{IsWhole, are_variables}
 use Rattle.icr_graph.specs.Building.{with_function}
@@ -33,6 +33,8 @@ function_built g f function vacant none allowed w =
       functions = λ n. more_there g.function f function (functions_at g n) (w.functions n);
       parameters = λ a. variables_there (λ x. x.parameters) named.0 a (w.parameters a);
       closed = λ a. variables_there (λ x. x.closed) named.1 a (w.closed a);
+      lambdas = more_there g.function f function (those_there g.lambdas) w.lambdas;
+      code = more_there g.function f function (listed g.code) w.code;
     }
   where
     variables_there : (p : Function → List ℕ) → are_variables g (p function) ≡ true → (a : ℕ) → are_variables g (numbers_of p (g.function a)) ≡ true → are_variables g (numbers_of p (with_entry g.function f (Some function) a)) ≡ true

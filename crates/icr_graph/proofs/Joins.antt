@@ -222,6 +222,8 @@ module _ (g : FlowGraph) (first second : ℕ) (j : AreJoinable g first second) (
         functions = λ a. ap (list_all (λ f. is_some (g.function f))) (node_kept (λ x. functions_of x.kind) (λ v. refl) a) ∙ w.functions a;
         parameters = w.parameters;
         closed = w.closed;
+        lambdas = w.lambdas;
+        code = w.code;
       }
 
   -- ---- what the code writes

@@ -11,6 +11,7 @@ pub mod Built
 pub mod NodeBuilt
 pub mod Attached
 pub mod FunctionBuilt
+pub mod FormNamed
 pub mod Distinct
 pub mod TwoParts
 pub mod Regrouped

@@ -185,6 +185,8 @@ module _ (g : FlowGraph) (n : ℕ) (nd : Node) (vacant : g.node n ≡ None) (liv
         functions = λ a. all_named (λ f. is_some (g.function f)) (λ x. functions_of x.kind) functions a (w.functions a);
         parameters = w.parameters;
         closed = w.closed;
+        lambdas = w.lambdas;
+        code = w.code;
       }
 
 pub node_built : (g : FlowGraph) (n : ℕ) (nd : Node) → g.node n ≡ None → add_fault g nd.block nd.kind ≡ None → nd.cont ≡ None → partners_of nd.kind ≡ [] → IsWhole g → IsWhole (with_node n nd g)

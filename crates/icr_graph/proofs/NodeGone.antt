@@ -178,6 +178,8 @@ without_node_whole g n w =
       functions = λ a. still_all (λ f. is_some (g.function f)) (λ x. functions_of x.kind) n g.node (λ v. functions_apart n v.kind) a (w.functions a);
       parameters = w.parameters;
       closed = w.closed;
+      lambdas = w.lambdas;
+      code = w.code;
     }
   where
     block_kept : (p : Block → List ℕ) → ((v : Block) → p (not_holding n v) ≡ p v) → ((v : Block) → p (no_arrival_of n v) ≡ p v) → (b : ℕ) → numbers_of p (each (not_holding n) (each (no_arrival_of n) g.block) b) ≡ numbers_of p (g.block b)

@@ -185,6 +185,8 @@ module _ (g : FlowGraph) (n b new : ℕ) (vacant : g.block new ≡ None) (live :
         functions = λ a. ap (list_all (λ f. is_some (g.function f))) (node_kept (λ x. functions_of x.kind) (λ v. refl) a) ∙ w.functions a;
         parameters = w.parameters;
         closed = w.closed;
+        lambdas = w.lambdas;
+        code = w.code;
       }
 
   -- ---- what the code writes

@@ -236,6 +236,8 @@ module _ (g : FlowGraph) (node old new : ℕ) (taken : dest_of g old ≡ node �
         functions = λ a. ap (list_all (λ f. is_some (g.function f))) (node_kept (λ x. functions_of x.kind) (λ v. functions_taking old new v.kind) a) ∙ w.functions a;
         parameters = w.parameters;
         closed = w.closed;
+        lambdas = w.lambdas;
+        code = w.code;
       }
 
 pub substitute_allowed : (g : FlowGraph) (old new : ℕ) → substitute_fault g old new ≡ None → (is_cont g new ≡ true) × (is_empty (dest_of g old) ≡ false) × (dest_of g new ≡ []) × (old ≢ new)

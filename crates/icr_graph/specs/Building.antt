@@ -80,6 +80,14 @@ with_assertion k assertion g = record g { cont = changed (asserting assertion) k
 abbrev pub with_function : ℕ → Function → FlowGraph → FlowGraph
 with_function f function g = record g { function = with_entry g.function f (Some function) }
 
+-- function f is that of the form's next lambda
+abbrev pub with_lambda : ℕ → FlowGraph → FlowGraph
+with_lambda f g = record g { lambdas = g.lambdas ++ Some f ∷ [] }
+
+-- function f is the form's own code
+abbrev pub with_code : ℕ → FlowGraph → FlowGraph
+with_code f g = record g { code = Some f }
+
 abbrev pub beginning_at : ℕ → Function → Function
 beginning_at b f = record f { entries = f.entries ++ b ∷ [] }
 

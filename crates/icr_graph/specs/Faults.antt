@@ -114,6 +114,10 @@ assert_fault g k = if is_cont g k then None else Some NotLive
 abbrev pub function_fault : FlowGraph → Function → Option EditFault
 function_fault g f = if are_variables g f.parameters && are_variables g f.closed then None else Some NotLive
 
+-- where a function cannot be one that the form names
+abbrev pub named_function_fault : FlowGraph → ℕ → Option EditFault
+named_function_fault g f = if is_function g f then None else Some NotLive
+
 abbrev pub entry_fault : FlowGraph → ℕ → ℕ → Option EditFault
 entry_fault g f b =
     if not (is_function g f && is_block g b) then Some NotLive

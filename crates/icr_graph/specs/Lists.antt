@@ -1,5 +1,5 @@
 -- Lists of numbers, and maps from numbers. This project's own.
-use Rattle.std.specs.Prelude.{ℕ, ◌-◌, length, take, drop, Bool, true, ◌==◌, not, ◌&&◌, if◌then◌else◌, List, [], ◌∷◌, map, filter, Option, Some, None, option_map}
+use Rattle.std.specs.Prelude.{ℕ, ◌-◌, length, take, drop, Bool, true, ◌==◌, not, ◌&&◌, if◌then◌else◌, List, [], ◌∷◌, map, filter, filter_map, Option, Some, None, option_map}
 use Rattle.std.specs.List.{list_any}
 
 -- whether a number is in a list
@@ -22,6 +22,10 @@ renumbered old new numbers = map (renumber old new) numbers
 abbrev pub listed : Option ℕ → List ℕ
 listed None = []
 listed (Some n) = n ∷ []
+
+-- the numbers that are there
+abbrev pub those_there : List (Option ℕ) → List ℕ
+those_there numbers = filter_map (λ n. n) numbers
 
 -- one number or none, and not this one
 abbrev pub other_than : ℕ → Option ℕ → Option ℕ

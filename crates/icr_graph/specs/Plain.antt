@@ -6,10 +6,12 @@ use Rattle.icr_graph.specs.declared.parts.Cont.{Cont}
 use Rattle.icr_graph.specs.declared.parts.Block.{Block}
 use Rattle.icr_graph.specs.declared.parts.Function.{Function}
 use Rattle.icr_graph.specs.declared.parts.Variable.{Variable}
+use Rattle.icr_graph.specs.declared.parts.Defined.{Defined}
 use Rattle.icr_graph.specs.Lists.{listed, numbers_of}
 use Rattle.icr_graph.specs.Kinds.{operands_of, arrivals_of, entry_left, exits_of, variables_of, functions_of}
 
--- the slots of its arenas, the number of its form's nodes, and that of its closed copies
+-- the slots of its arenas, and what it keeps of its form: how many nodes and closed copies it has, the function of each of
+-- its lambdas, the function of its own code, and what it defines
 pub record Slots : Type 0 where
   pub nodes : List (Option Node)
   pub conts : List (Option Cont)
@@ -18,8 +20,11 @@ pub record Slots : Type 0 where
   pub variables : List (Option Variable)
   pub size : ℕ
   pub copies : ℕ
+  pub lambdas : List (Option ℕ)
+  pub code : Option ℕ
+  pub defines : Option Defined
 
--- what stands under each number
+-- what stands under each number, and the same of its form
 pub record FlowGraph : Type 0 where
   pub node : ℕ → Option Node
   pub cont : ℕ → Option Cont
@@ -28,6 +33,9 @@ pub record FlowGraph : Type 0 where
   pub variable : ℕ → Option Variable
   pub size : ℕ
   pub copies : ℕ
+  pub lambdas : List (Option ℕ)
+  pub code : Option ℕ
+  pub defines : Option Defined
 
 abbrev pub graph_of : Slots → FlowGraph
 graph_of s =
@@ -39,6 +47,9 @@ graph_of s =
       variable = map_of s.variables;
       size = s.size;
       copies = s.copies;
+      lambdas = s.lambdas;
+      code = s.code;
+      defines = s.defines;
     }
 
 -- ---- reading it; of a number that isn't live, nothing

@@ -1,7 +1,7 @@
 -- Which graphs hang together: every link is mutual, and every number that is named is live. This project's own.
 use Rattle.std.specs.Prelude.{◌≡◌, ℕ, Bool, true, List, is_some}
 use Rattle.std.specs.List.{list_all}
-use Rattle.icr_graph.specs.Lists.{has_number, are_distinct}
+use Rattle.icr_graph.specs.Lists.{has_number, are_distinct, listed, those_there}
 use Rattle.icr_graph.specs.Plain.{FlowGraph, nodes_in, blocks_before, blocks_after, arriving_at, entered_by, block_of, cont_of, operands_at, arrivals_at, entry_left_at, exits_at, variables_at, functions_at, uses_of, dest_of, entries_of, parameters_of, closed_of}
 
 -- b is named at a exactly where a is named at b
@@ -38,3 +38,6 @@ pub record IsWhole (g : FlowGraph) : Type 0 where
   pub functions : (n : ℕ) → are_functions g (functions_at g n) ≡ true
   pub parameters : (f : ℕ) → are_variables g (parameters_of g f) ≡ true
   pub closed : (f : ℕ) → are_variables g (closed_of g f) ≡ true
+  -- the functions of the form's lambdas, and that of its own code
+  pub lambdas : are_functions g (those_there g.lambdas) ≡ true
+  pub code : are_functions g (listed g.code) ≡ true

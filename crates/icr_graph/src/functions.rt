@@ -1,11 +1,12 @@
-// Functions and their entries.
+// Functions and their entries, and those that the form names.
 
 ghost use Rattle.std.specs.Prelude.{◌≡◌, [], None, Some, IfErr, IfOk, OnErr, OnOk};
 ghost use Rattle.ir_ids.specs.Entries.{map_of};
 ghost use Rattle.icr_graph.specs.Lists.{changed};
 ghost use Rattle.icr_graph.specs.Plain.{graph_of};
 ghost use Rattle.icr_graph.specs.Whole.{are_variables};
-ghost use Rattle.icr_graph.specs.Building.{with_function, beginning_at, entry_of_function, entered_at};
+ghost use Rattle.icr_graph.specs.Building.{with_function, with_lambda, with_code, beginning_at, entry_of_function, entered_at};
+ghost use Rattle.icr_graph.specs.declared.faults.EditFault.TheVariants.{NotLive};
 ghost use Rattle.icr_graph.specs.Faults as stated;
 
 use crate::faults::EditFault;
@@ -75,6 +76,17 @@ impl Graph {
         }
     }
 
+    // Why a function cannot be one that the form names.
+    fn named_function_fault(&self, function: FunId) -> Option<EditFault>
+        ensures { result ≡ stated.named_function_fault (graph_of self.now) function }
+    {
+        if self.functions.get(function).is_some() {
+            None
+        } else {
+            Some(EditFault::NotLive)
+        }
+    }
+
     /// Adds a function, which has no entries yet.
     ///
     /// # Errors
@@ -113,6 +125,42 @@ impl Graph {
         }
         begin_at(&mut self.functions, function, block)?;
         set_entry_of(&mut self.blocks, block, function);
+        Ok(())
+    }
+
+    /// Makes a function that of the form's next lambda.
+    ///
+    /// # Errors
+    /// `NotLive` exactly where the function is not live; want of memory. The graph is then as
+    /// before.
+    pub fn add_lambda(&mut self, function: FunId) -> Result<(), EditFault>
+        ensures allowed { OnOk result (stated.named_function_fault (graph_of self.old) function ≡ None) }
+        ensures ok { OnOk result (graph_of self.new ≡ with_lambda function (graph_of self.old)) }
+        ensures fault { IfErr result (λ fault. stated.Refused (stated.named_function_fault (graph_of self.old) function) fault) }
+        ensures err { OnErr result (self.new ≡ self.old) }
+    {
+        if let Some(fault) = self.named_function_fault(function) {
+            return Err(fault);
+        }
+        self.lambdas.push(Some(function))?;
+        Ok(())
+    }
+
+    /// Makes a function the form's own code, in the place of another that was. It takes no memory.
+    ///
+    /// # Errors
+    /// `NotLive` exactly where the function is not live. The graph is then as before.
+    pub fn set_code(&mut self, function: FunId) -> Result<(), EditFault>
+        ensures allowed { OnOk result (stated.named_function_fault (graph_of self.old) function ≡ None) }
+        ensures ok { OnOk result (graph_of self.new ≡ with_code function (graph_of self.old)) }
+        ensures fault { IfErr result (λ fault. stated.named_function_fault (graph_of self.old) function ≡ Some fault) }
+        ensures not_live { IfErr result (λ fault. fault ≡ NotLive) }
+        ensures err { OnErr result (self.new ≡ self.old) }
+    {
+        if let Some(fault) = self.named_function_fault(function) {
+            return Err(fault);
+        }
+        self.code = Some(function);
         Ok(())
     }
 }

@@ -3,8 +3,9 @@
 ghost use Rattle.std.specs.Prelude.{◌≡◌, [], None, Some, IfOk, IfErr, OnErr, OnOk, option_copied};
 ghost use Rattle.icr_graph.specs.Plain.{graph_of};
 
+use crate::listing::Listing;
 use crate::nodes::Node;
-use crate::parts::{Block, Cont, Function, Variable};
+use crate::parts::{Block, Cont, Defined, Function, Variable};
 use ir_ids::{Arena, BlockId, ContId, FunId, NodeId, VarId};
 use std::alloc::Global;
 use std::marker::Model;
@@ -19,6 +20,9 @@ pub struct Graph {
     pub(crate) variables: Arena<VarId, Variable>,
     size: u32,
     copies: u32,
+    pub(crate) lambdas: Listing<Option<FunId>>,
+    pub(crate) code: Option<FunId>,
+    defines: Option<Defined>,
 }
 
 impl Model for Graph {
@@ -39,6 +43,9 @@ impl Model for Graph {
       variables = g.variables;
       size = g.size;
       copies = g.copies;
+      lambdas = g.lambdas;
+      code = g.code;
+      defines = g.defines;
     } };
 
     ghost invariant = { λ g. IsWhole (graph_of (record {
@@ -49,13 +56,17 @@ impl Model for Graph {
       variables = g.variables;
       size = g.size;
       copies = g.copies;
+      lambdas = g.lambdas;
+      code = g.code;
+      defines = g.defines;
     })) };
 }
 
 impl Graph {
-    /// A graph with nothing in it, for a form with so many nodes and closed copies.
-    pub fn new(alloc: Global, size: u32, copies: u32) -> Self
-        ensures { result ≡ record { nodes = []; conts = []; blocks = []; functions = []; variables = []; size = size; copies = copies } }
+    /// A graph with nothing in it, for a form with so many nodes and closed copies, which defines
+    /// this where it is a form of the prelude.
+    pub fn new(alloc: Global, size: u32, copies: u32, defines: Option<Defined>) -> Self
+        ensures { result ≡ record { nodes = []; conts = []; blocks = []; functions = []; variables = []; size = size; copies = copies; lambdas = []; code = None; defines = defines } }
     {
         Graph {
             nodes: Arena::new(alloc),
@@ -65,6 +76,9 @@ impl Graph {
             variables: Arena::new(alloc),
             size,
             copies,
+            lambdas: Listing::new(alloc),
+            code: None,
+            defines,
         }
     }
 
@@ -80,6 +94,27 @@ impl Graph {
         ensures { result ≡ self.now.copies }
     {
         self.copies
+    }
+
+    /// The function of each lambda of the form, by the lambda's number; None where it is gone.
+    pub fn lambdas(&self) -> &[Option<FunId>]
+        ensures { result.now ≡ self.now.lambdas }
+    {
+        self.lambdas.as_slice()
+    }
+
+    /// The function that is the form's own code; None until it is set.
+    pub fn code(&self) -> Option<FunId>
+        ensures { result ≡ self.now.code }
+    {
+        self.code
+    }
+
+    /// What the form defines, for a form of the prelude; None for another.
+    pub fn defines(&self) -> Option<Defined>
+        ensures { result ≡ self.now.defines }
+    {
+        self.defines
     }
 
     /// The node of an identifier; None exactly where it is not live.

@@ -27,4 +27,4 @@ pub use nodes::{
     BlockIds, Charges, ContIds, Extent, Leaf, Leaving, Node, NodeIds, NodeKind, Operation, Tag,
     VarIds,
 };
-pub use parts::{Assertion, Assertions, Block, Cont, Function, Variable};
+pub use parts::{Assertion, Assertions, Block, Cont, Defined, Function, Variable};

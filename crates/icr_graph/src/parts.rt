@@ -41,7 +41,7 @@ pub struct Block {
 /// A function of a top-level form.
 #[derive(Drop)]
 pub struct Function {
-    /// The number of its lambda in the program; None for the top-level form's own code.
+    /// The number of its lambda in the top-level form; None for the form's own code.
     pub lambda: Option<u32>,
     pub name: Option<SymId>,
     pub place: Place,
@@ -57,11 +57,19 @@ pub struct Function {
     pub entries: BlockIds,
 }
 
+/// What a form of the prelude defines: a symbol's function, by the number of its lambda.
+#[derive(Clone, Copy, Debug)]
+pub struct Defined {
+    pub name: SymId,
+    pub lambda: u32,
+}
+
 /// A lexical variable, or what stands for a block or a tagbody.
 #[derive(Debug, Drop)]
 pub struct Variable {
     /// Its number in its top-level form.
     pub number: u32,
+    /// Its name; None for what stands for a block or a tagbody.
     pub name: Option<SymId>,
     /// Whether its value is kept in a cell, since a function closes over it and it is set.
     pub cell: bool,

@@ -27,7 +27,7 @@ fn add(
 
 // A graph with a block that holds the return of a continuation.
 fn returning(alloc: Global) -> Result<(Graph, BlockId, ContId, NodeId), EditFault> {
-    let mut graph = Graph::new(alloc, 0, 0);
+    let mut graph = Graph::new(alloc, 0, 0, None);
     let block = graph.add_block(alloc)?;
     let value = graph.add_cont(alloc)?;
     let node = add(&mut graph, alloc, block, NodeKind::Return { value })?;
@@ -36,7 +36,7 @@ fn returning(alloc: Global) -> Result<(Graph, BlockId, ContId, NodeId), EditFaul
 
 // A graph with a function that begins at a block.
 fn function(alloc: Global) -> Result<(Graph, FunId, BlockId), EditFault> {
-    let mut graph = Graph::new(alloc, 0, 0);
+    let mut graph = Graph::new(alloc, 0, 0, None);
     let block = graph.add_block(alloc)?;
     let function = graph.add_function(Function {
         lambda: None,
@@ -55,7 +55,7 @@ fn function(alloc: Global) -> Result<(Graph, FunId, BlockId), EditFault> {
 
 // A graph with an entry and an exit, and the block of its cleanup form.
 fn guarded(alloc: Global) -> Result<(Graph, NodeId, NodeId, BlockId), EditFault> {
-    let mut graph = Graph::new(alloc, 0, 0);
+    let mut graph = Graph::new(alloc, 0, 0, None);
     let block = graph.add_block(alloc)?;
     let cleanup = graph.add_block(alloc)?;
     let extent = Extent::Guarded { cleanup };
@@ -109,6 +109,29 @@ fn an_entry_of_a_function_is_not_deleted(rt: HostRuntime) -> Result<(), Fail> {
         graph.block(block).map(|block| block.entry_of),
         Some(Some(function))
     );
+    Ok(())
+}
+
+#[test]
+fn a_form_names_its_functions(rt: HostRuntime) -> Result<(), Fail> {
+    let (mut graph, function, _) = function(rt.alloc()).map_err(|_| AllocError)?;
+    assert_eq!(rt; graph.add_lambda(function), Ok(()));
+    assert_eq!(rt; graph.set_code(function), Ok(()));
+    assert!(rt; graph.lambdas() == [Some(function)].as_slice());
+    assert_eq!(rt; graph.code(), Some(function));
+    assert!(rt; graph.defines().is_none());
+    Ok(())
+}
+
+#[test]
+fn a_form_names_no_function_of_another(rt: HostRuntime) -> Result<(), Fail> {
+    let alloc = rt.alloc();
+    let (_, other, _) = function(alloc).map_err(|_| AllocError)?;
+    let mut graph = Graph::new(alloc, 0, 0, None);
+    assert_eq!(rt; graph.add_lambda(other), Err(EditFault::NotLive));
+    assert_eq!(rt; graph.set_code(other), Err(EditFault::NotLive));
+    assert!(rt; graph.lambdas().is_empty());
+    assert_eq!(rt; graph.code(), None);
     Ok(())
 }
 

@@ -5,7 +5,7 @@ use std::test::*;
 
 // A graph with two blocks.
 fn two(alloc: Global) -> Result<(Graph, BlockId, BlockId), AllocError> {
-    let mut graph = Graph::new(alloc, 0, 0);
+    let mut graph = Graph::new(alloc, 0, 0, None);
     let first = graph.add_block(alloc)?;
     let second = graph.add_block(alloc)?;
     Ok((graph, first, second))
@@ -77,7 +77,7 @@ fn a_retired_block_is_not_live(rt: HostRuntime) -> Result<(), Fail> {
 #[test]
 fn a_continuation_without_a_destination_is_not_substituted(rt: HostRuntime) -> Result<(), Fail> {
     let alloc = rt.alloc();
-    let mut graph = Graph::new(alloc, 0, 0);
+    let mut graph = Graph::new(alloc, 0, 0, None);
     let first = graph.add_cont(alloc)?;
     let second = graph.add_cont(alloc)?;
     assert_eq!(rt;

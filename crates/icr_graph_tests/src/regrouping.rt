@@ -5,7 +5,7 @@ use std::test::*;
 
 // A graph with two blocks and an edge from the first to the second.
 fn edge(alloc: Global) -> Result<(Graph, BlockId, BlockId), AllocError> {
-    let mut graph = Graph::new(alloc, 0, 0);
+    let mut graph = Graph::new(alloc, 0, 0, None);
     let first = graph.add_block(alloc)?;
     let second = graph.add_block(alloc)?;
     if graph.link(first, second).is_err() {
