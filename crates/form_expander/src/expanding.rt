@@ -485,6 +485,59 @@ impl Expander {
         Ok(tagbody_node(place, items))
     }
 
+    /// The tree of a form, which its chain of forms leads to. The scope becomes that of the last one.
+    #[cycle(expanding)]
+    #[tactic(auto, using(crate::proofs::Keeping::keeps_on, crate::proofs::Keeping::keeps_still), unfolding(expansion::specs::Expanding::make, crate::specs::Stepping::steps))]
+    #[inline(never)]
+    fn make_form(&mut self, alloc: Global, fuel: u32, levels: u32, form: Val) -> Result<Core, Fault>
+        ensures follows { Follows core_of (definition.make (suc fuel) levels (scope_of self.old.scope) (plain.form form) (world_of self.old.world)) result (world_of self.new.world) }
+        ensures scope { IfOk result (λ _. Extends (scope_of self.old.scope) (scope_of self.new.scope)) }
+        ensures keeps { Keeps self.old.world self.new.world }
+    {
+        let led = self.lead(alloc, fuel, MOST_CHAIN, form)?;
+        self.make(alloc, led.fuel, levels, &led.sketch)
+    }
+
+    /// The assignment of a variable.
+    #[cycle(expanding)]
+    #[tactic(auto, using(crate::proofs::Keeping::keeps_on, crate::proofs::Keeping::keeps_still), unfolding(expansion::specs::Expanding::make, crate::specs::Stepping::steps))]
+    #[inline(never)]
+    fn make_assigned(
+        &mut self,
+        alloc: Global,
+        fuel: u32,
+        levels: u32,
+        name: SymId,
+        value: Val,
+    ) -> Result<Core, Fault>
+        ensures follows { Follows core_of (definition.make (suc fuel) levels (scope_of self.old.scope) (plain.assign name value) (world_of self.old.world)) result (world_of self.new.world) }
+        ensures scope { IfOk result (λ _. Extends (scope_of self.old.scope) (scope_of self.new.scope)) }
+        ensures keeps { Keeps self.old.world self.new.world }
+    {
+        let sketch = set_variable(&self.world, alloc, &self.scope, name, value)?;
+        self.make(alloc, fuel, levels, &sketch)
+    }
+
+    /// A function as a value. The scope becomes that of its body.
+    #[cycle(expanding)]
+    #[tactic(auto, using(crate::proofs::Keeping::keeps_on, crate::proofs::Keeping::keeps_still), unfolding(expansion::specs::Expanding::make, crate::specs::Stepping::steps))]
+    #[inline(never)]
+    fn make_value(
+        &mut self,
+        alloc: Global,
+        fuel: u32,
+        levels: u32,
+        function: &Function,
+    ) -> Result<Core, Fault>
+        ensures follows { Follows core_of (definition.make (suc fuel) levels (scope_of self.old.scope) (plain.function (function_from function.now)) (world_of self.old.world)) result (world_of self.new.world) }
+        ensures scope { IfOk result (λ _. Extends (scope_of self.old.scope) (scope_of self.new.scope)) }
+        ensures keeps { Keeps self.old.world self.new.world }
+    {
+        let place = self.scope.place;
+        let lambda = self.make_function(alloc, fuel, levels, function)?;
+        Ok(function_node(place, lambda))
+    }
+
     /// The tree of a sketch, its parts with this fuel. The scope may become that of a part.
     #[cycle(expanding)]
     #[tactic(auto, using(crate::proofs::Keeping::keeps_on, crate::proofs::Keeping::keeps_still), unfolding(expansion::specs::Expanding::make, crate::specs::Stepping::steps))]
@@ -501,10 +554,7 @@ impl Expander {
         ensures keeps { Keeps self.old.world self.new.world }
     {
         match sketch {
-            Sketch::Form(form) => {
-                let led = self.lead(alloc, fuel, MOST_CHAIN, *form)?;
-                self.make(alloc, led.fuel, levels, &led.sketch)
-            }
+            Sketch::Form(form) => self.make_form(alloc, fuel, levels, *form),
             Sketch::Leaf(leaf) => self.make_leaf(levels, *leaf),
             Sketch::One(node, part) => self.make_one(alloc, fuel, levels, node, part),
             Sketch::Two(node, first, second) => {
@@ -516,15 +566,8 @@ impl Expander {
                 self.make_calling(alloc, fuel, levels, *node, function, parts)
             }
             Sketch::Bind(bindings, body) => self.make_bind(alloc, fuel, levels, bindings, body),
-            Sketch::Assign(name, value) => {
-                let sketch = set_variable(&self.world, alloc, &self.scope, *name, *value)?;
-                self.make(alloc, fuel, levels, &sketch)
-            }
-            Sketch::Function(function) => {
-                let place = self.scope.place;
-                let lambda = self.make_function(alloc, fuel, levels, function)?;
-                Ok(function_node(place, lambda))
-            }
+            Sketch::Assign(name, value) => self.make_assigned(alloc, fuel, levels, *name, *value),
+            Sketch::Function(function) => self.make_value(alloc, fuel, levels, function),
             Sketch::Functions(reach, definitions, body) => {
                 self.make_functions(alloc, fuel, levels, *reach, definitions, body)
             }

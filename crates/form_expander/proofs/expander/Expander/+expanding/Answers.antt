@@ -16,7 +16,7 @@ use Rattle.core_form.specs.Tree as tree
 use Rattle.core_form.specs.Tree.{Core, Parameter, define, lambda, no_definition}
 use Rattle.expansion.specs.Expanding.{around_definitions, bounds_of, defaults, definitions, function_tree, items, make, parameter_some, parameters, values_bound, with_all, with_some, with_tags}
 use Rattle.expansion.specs.Scopes.{Scope, with_block, with_function}
-use Rattle.expansion.specs.Sketches.{assign, bind, block, calling, choice, functions, leaf, many, one, recursive, tagbody, two, within}
+use Rattle.expansion.specs.Sketches.{assign, bind, block, calling, choice, form, function, functions, leaf, many, one, recursive, tagbody, two, within}
 use Rattle.expansion.specs.Steps.{begin, gives, inside}
 use Rattle.form_expander.specs.declared.sketch.Sketch.{Sketch as Sketch'}
 use Rattle.form_expander.specs.Beginnings.{beginning_from, definition_from, with_names, with_optional}
@@ -467,14 +467,36 @@ pub make_tagbody-returns-clause-scope : goal.make_tagbody-returns-clause-scope
 make_tagbody-returns-clause-scope t c =
     extends_on (scope_of c.args.self.now.scope) (with_tags c.in_ok-number.number c.args.values.now (scope_of c.args.self.now.scope)) (scope_of c.make_items.new.self.scope) (with_tags_extends c.in_ok-number.number c.args.values.now (scope_of c.args.self.now.scope)) (c.in_ok-items.ensures.scope ∙ c.in_ok-add_tags.ensures)
 
-pub make_sketch-returns-in_err-led-in-Form-clause-follows : goal.make_sketch-returns-in_err-led-in-Form-clause-follows
-make_sketch-returns-in_err-led-in-Form-clause-follows t c =
+pub make_form-returns-in_err-led-clause-follows : goal.make_form-returns-in_err-led-clause-follows
+make_form-returns-in_err-led-clause-follows t c =
     let p = err_from_is_err_and c.from_residual.result c.from_residual.ensures.1 in
-    rw (p.1, p.2, c.in-Form.is) (form_refused c.args.fuel c.args.levels (scope_of c.args.self.now.scope) c.in-Form.form (world_of c.args.self.now.world) c.in_err-led-in-Form.field-0.0 c.in_err-led-in-Form.ensures.follows)
+    rw (p.1, p.2) (form_refused c.args.fuel c.args.levels (scope_of c.args.self.now.scope) c.args.form (world_of c.args.self.now.world) c.in_err-led.field-0.0 c.in_err-led.ensures.follows)
 
-pub make_sketch-returns-in_ok-led-in-Form-clause-follows : goal.make_sketch-returns-in_ok-led-in-Form-clause-follows
-make_sketch-returns-in_ok-led-in-Form-clause-follows t c =
-    rw c.in-Form.is (form_follows c.args.fuel c.args.levels (scope_of c.args.self.now.scope) c.in-Form.form (world_of c.args.self.now.world) core_of c.in_ok-led-in-Form.led.fuel (scope_of c.lead.new.self.scope) (sketch_of c.in_ok-led-in-Form.led.sketch) (world_of c.lead.new.self.world) c.make.result (world_of c.make.new.self.world) c.in_ok-led-in-Form.ensures.follows c.make.ensures.follows)
+pub make_form-returns-clause-follows : goal.make_form-returns-clause-follows
+make_form-returns-clause-follows t c =
+    form_follows c.args.fuel c.args.levels (scope_of c.args.self.now.scope) c.args.form (world_of c.args.self.now.world) core_of c.in_ok-led.led.fuel (scope_of c.lead.new.self.scope) (sketch_of c.in_ok-led.led.sketch) (world_of c.lead.new.self.world) c.make.result (world_of c.make.new.self.world) c.in_ok-led.ensures.follows c.make.ensures.follows
+
+pub make_assigned-returns-clause-follows : goal.make_assigned-returns-clause-follows
+make_assigned-returns-clause-follows t c =
+    sketch_as c.args.fuel c.args.levels (scope_of c.args.self.now.scope) (world_of c.args.self.now.world) (assign c.args.name c.args.value) c.make.result (world_of c.make.new.self.world) (assign c.args.name c.args.value) _
+    refl
+    (assign_is c.args.fuel c.args.levels (scope_of c.args.self.now.scope) (world_of c.args.self.now.world) c.args.name c.args.value (sketch_of c.in_ok-sketch.sketch) c.in_ok-sketch.ensures) c.make.ensures.follows
+
+pub make_value-returns-in_err-lambda-clause-follows : goal.make_value-returns-in_err-lambda-clause-follows
+make_value-returns-in_err-lambda-clause-follows t c =
+    let p = err_from_is_err_and c.from_residual.result c.from_residual.ensures.1 in
+    rw (p.1, p.2) (value_refused c.args.fuel c.args.levels (scope_of c.args.self.now.scope) (function_from c.args.function.now) (world_of c.args.self.now.world) c.in_err-lambda.field-0.0 c.in_err-lambda.ensures.follows)
+
+pub make_value-returns-clause-follows : goal.make_value-returns-clause-follows
+make_value-returns-clause-follows t c =
+    value_gives c.args.fuel c.args.levels (scope_of c.args.self.now.scope) (function_from c.args.function.now) (world_of c.args.self.now.world) (lambda_of c.in_ok-lambda.lambda) (world_of c.make_function.new.self.world) c.in_ok-lambda.ensures.follows
+    ∙ ap (λ (e : Core). gives e (world_of c.make_function.new.self.world)) (sym c.function_node.ensures)
+
+pub make_sketch-returns-in-Form-clause-follows : goal.make_sketch-returns-in-Form-clause-follows
+make_sketch-returns-in-Form-clause-follows t c =
+    sketch_as c.args.fuel c.args.levels (scope_of c.args.self.now.scope) (world_of c.args.self.now.world) (sketch_of c.args.sketch.now) c.make_form.result (world_of c.make_form.new.self.world) (form c.in-Form.form) _
+    (ap (λ (x : Sketch'). sketch_of x) c.in-Form.is)
+    refl c.make_form.ensures.follows
 
 pub make_sketch-returns-in-Leaf-clause-follows : goal.make_sketch-returns-in-Leaf-clause-follows
 make_sketch-returns-in-Leaf-clause-follows t c =
@@ -544,30 +566,25 @@ make_sketch-returns-in-Tagbody-clause-follows t c =
 
 pub make_sketch-returns-in_ok-add_declared-in-Within-clause-follows : goal.make_sketch-returns-in_ok-add_declared-in-Within-clause-follows
 make_sketch-returns-in_ok-add_declared-in-Within-clause-follows t c =
-    sketch_as c.args.fuel c.args.levels (scope_of c.args.self.now.scope) (world_of c.args.self.now.world) (sketch_of c.args.sketch.now) c.make-in-Within.result (world_of c.make-in-Within.new.self.world) (within (declared_of c.in-Within.declared) (sketch_of c.deref-in-Within.result.now)) _
+    sketch_as c.args.fuel c.args.levels (scope_of c.args.self.now.scope) (world_of c.args.self.now.world) (sketch_of c.args.sketch.now) c.make.result (world_of c.make.new.self.world) (within (declared_of c.in-Within.declared) (sketch_of c.deref-in-Within.result.now)) _
     (rw (c.in-Within.is, c.deref-in-Within.ensures) refl)
-    (within_is c.args.fuel c.args.levels (scope_of c.args.self.now.scope) (world_of c.args.self.now.world) _ _ (scope_of c.add_declared.new.self) c.in_ok-add_declared-in-Within.ensures) c.make-in-Within.ensures.follows
+    (within_is c.args.fuel c.args.levels (scope_of c.args.self.now.scope) (world_of c.args.self.now.world) _ _ (scope_of c.add_declared.new.self) c.in_ok-add_declared-in-Within.ensures) c.make.ensures.follows
 
 pub make_sketch-returns-in_ok-add_declared-in-Within-clause-scope : goal.make_sketch-returns-in_ok-add_declared-in-Within-clause-scope
 make_sketch-returns-in_ok-add_declared-in-Within-clause-scope t c =
-    within_extends (declared_of c.in-Within.declared) (scope_of c.args.self.now.scope) (scope_of c.add_declared.new.self) (scope_of c.make-in-Within.new.self.scope) c.make-in-Within.result c.in_ok-add_declared-in-Within.ensures c.make-in-Within.ensures.scope
+    within_extends (declared_of c.in-Within.declared) (scope_of c.args.self.now.scope) (scope_of c.add_declared.new.self) (scope_of c.make.new.self.scope) c.make.result c.in_ok-add_declared-in-Within.ensures c.make.ensures.scope
 
-pub make_sketch-returns-in_ok-sketch-in-Assign-clause-follows : goal.make_sketch-returns-in_ok-sketch-in-Assign-clause-follows
-make_sketch-returns-in_ok-sketch-in-Assign-clause-follows t c =
-    sketch_as c.args.fuel c.args.levels (scope_of c.args.self.now.scope) (world_of c.args.self.now.world) (sketch_of c.args.sketch.now) c.make-in-Assign.result (world_of c.make-in-Assign.new.self.world) (assign c.in-Assign.name c.in-Assign.value) _
+pub make_sketch-returns-in-Assign-clause-follows : goal.make_sketch-returns-in-Assign-clause-follows
+make_sketch-returns-in-Assign-clause-follows t c =
+    sketch_as c.args.fuel c.args.levels (scope_of c.args.self.now.scope) (world_of c.args.self.now.world) (sketch_of c.args.sketch.now) c.make_assigned.result (world_of c.make_assigned.new.self.world) (assign c.in-Assign.name c.in-Assign.value) _
     (rw c.in-Assign.is refl)
-    (assign_is c.args.fuel c.args.levels (scope_of c.args.self.now.scope) (world_of c.args.self.now.world) c.in-Assign.name c.in-Assign.value (sketch_of c.in_ok-sketch-in-Assign.sketch) c.in_ok-sketch-in-Assign.ensures) c.make-in-Assign.ensures.follows
+    refl c.make_assigned.ensures.follows
 
-pub make_sketch-returns-in_err-lambda-in-Function-clause-follows : goal.make_sketch-returns-in_err-lambda-in-Function-clause-follows
-make_sketch-returns-in_err-lambda-in-Function-clause-follows t c =
-    let p = err_from_is_err_and c.from_residual-in_err-lambda-in-Function.result c.from_residual-in_err-lambda-in-Function.ensures.1 in
-    rw (p.1, p.2, c.in-Function.is) (value_refused c.args.fuel c.args.levels (scope_of c.args.self.now.scope) (function_from c.in-Function.function) (world_of c.args.self.now.world) c.in_err-lambda-in-Function.field-0.0 c.in_err-lambda-in-Function.ensures.follows)
-
-pub make_sketch-returns-in_ok-lambda-in-Function-clause-follows : goal.make_sketch-returns-in_ok-lambda-in-Function-clause-follows
-make_sketch-returns-in_ok-lambda-in-Function-clause-follows t c =
-    ap (λ (x : Sketch'). make (suc c.args.fuel) c.args.levels (scope_of c.args.self.now.scope) (sketch_of x) (world_of c.args.self.now.world)) c.in-Function.is
-    ∙ (value_gives c.args.fuel c.args.levels (scope_of c.args.self.now.scope) (function_from c.in-Function.function) (world_of c.args.self.now.world) (lambda_of c.in_ok-lambda-in-Function.lambda) (world_of c.make_function.new.self.world) c.in_ok-lambda-in-Function.ensures.follows
-    ∙ ap (λ (e : Core). gives e (world_of c.make_function.new.self.world)) (sym c.function_node.ensures))
+pub make_sketch-returns-in-Function-clause-follows : goal.make_sketch-returns-in-Function-clause-follows
+make_sketch-returns-in-Function-clause-follows t c =
+    sketch_as c.args.fuel c.args.levels (scope_of c.args.self.now.scope) (world_of c.args.self.now.world) (sketch_of c.args.sketch.now) c.make_value.result (world_of c.make_value.new.self.world) (function (function_from c.in-Function.function)) _
+    (ap (λ (x : Sketch'). sketch_of x) c.in-Function.is)
+    refl c.make_value.ensures.follows
 
 pub make-returns-in_default-clause-follows : goal.make-returns-in_default-clause-follows
 make-returns-in_default-clause-follows t c =

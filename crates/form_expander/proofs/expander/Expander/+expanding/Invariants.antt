@@ -62,6 +62,15 @@ decreases-make_block l = 7 * l.fuel + 5
 abbrev pub decreases-make_tagbody : goal.decreases-make_tagbody
 decreases-make_tagbody l = 7 * l.fuel + 5
 
+abbrev pub decreases-make_form : goal.decreases-make_form
+decreases-make_form l = 7 * l.fuel + 5
+
+abbrev pub decreases-make_assigned : goal.decreases-make_assigned
+decreases-make_assigned l = 7 * l.fuel + 5
+
+abbrev pub decreases-make_value : goal.decreases-make_value
+decreases-make_value l = 7 * l.fuel + 5
+
 abbrev pub decreases-make_sketch : goal.decreases-make_sketch
 decreases-make_sketch l = 7 * l.fuel + 6
 
