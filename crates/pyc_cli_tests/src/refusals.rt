@@ -118,7 +118,8 @@ fn deepest(
     let left = call(alloc, &EXPAND, source.as_bytes(), b"", [0, 0, 0, 0])?;
     assert_eq!(rt; left.err.bytes(), b"".as_slice());
     assert_eq!(rt; left.status, Status::Done);
-    let deeper = repeated(alloc, operator, part, count + 1, ")")?;
+    let mut deeper = repeated(alloc, operator, part, count, part)?;
+    deeper.push_str(")")?;
     unexpanded(rt, alloc, deeper.as_str(), "refused TooNested at 0\n")
 }
 

@@ -1,0 +1,5 @@
+-- Which graphs are those of forms, and what it is that they do what the forms do.
+pub mod Spots
+pub mod Standing
+pub mod Landing
+pub mod Calling
