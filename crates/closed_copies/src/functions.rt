@@ -11,24 +11,24 @@ use std::alloc::{AllocError, Global};
 
 /// A tag with the number of its tagbody.
 #[derive(Clone, Copy)]
-pub(crate) struct Tag {
-    pub(crate) number: u32,
-    pub(crate) tagbody: u32,
+pub struct Tag {
+    pub number: u32,
+    pub tagbody: u32,
 }
 
 /// A function, as far as its closed variables go.
 #[derive(Drop)]
-pub(crate) struct Function {
+pub struct Function {
     /// The variables to which it refers and the blocks and tagbodies that it leaves.
-    pub(crate) refers: Vec<u32>,
+    pub refers: Vec<u32>,
     /// The places of the local functions to which it refers.
-    pub(crate) calls: Vec<usize>,
+    pub calls: Vec<usize>,
     /// What is bound inside it.
-    pub(crate) inner: Vec<u32>,
+    pub inner: Vec<u32>,
 }
 
 /// Whether a number is among others.
-pub(crate) fn has(numbers: &[u32], number: u32) -> bool
+pub fn has(numbers: &[u32], number: u32) -> bool
     ensures { result ≡ has_number number numbers.now }
 {
     for other in numbers {
@@ -40,7 +40,7 @@ pub(crate) fn has(numbers: &[u32], number: u32) -> bool
 }
 
 /// The place of the first of these numbers that is this.
-fn place_of(numbers: &[u32], number: u32) -> Option<usize>
+pub fn place_of(numbers: &[u32], number: u32) -> Option<usize>
     ensures { result ≡ place_from 0 number numbers.now }
 {
     for (i, other) in numbers.iter().enumerate() {
@@ -94,7 +94,7 @@ fn called(event: Event<'_>, numbers: &[u32]) -> Option<usize>
 }
 
 /// The tags of a form.
-pub(crate) fn tags_in(alloc: Global, events: &[Event<'_>]) -> Result<Vec<Tag>, AllocError>
+pub fn tags_in(alloc: Global, events: &[Event<'_>]) -> Result<Vec<Tag>, AllocError>
     ensures { IfOk result (λ tags. tags_list tags.items ≡ flat_map tag_of (events_list events.now)) }
 {
     let mut tags = Vec::new(alloc);
@@ -107,7 +107,7 @@ pub(crate) fn tags_in(alloc: Global, events: &[Event<'_>]) -> Result<Vec<Tag>, A
 }
 
 /// The numbers of the local functions of a form.
-pub(crate) fn numbers_in(alloc: Global, events: &[Event<'_>]) -> Result<Vec<u32>, AllocError>
+pub fn numbers_in(alloc: Global, events: &[Event<'_>]) -> Result<Vec<u32>, AllocError>
     ensures { IfOk result (λ numbers. numbers.items ≡ flat_map number_of (events_list events.now)) }
 {
     let mut numbers = Vec::new(alloc);
@@ -132,7 +132,7 @@ fn referred_in(alloc: Global, events: &[Event<'_>], tags: &[Tag]) -> Result<Vec<
 }
 
 /// The places, among the local functions of these numbers, of those that are called or taken.
-pub(crate) fn called_in(
+pub fn called_in(
     alloc: Global,
     events: &[Event<'_>],
     functions: &[u32],
@@ -179,7 +179,8 @@ fn inner_in(alloc: Global, events: &[Event<'_>]) -> Result<Vec<u32>, AllocError>
     Ok(numbers)
 }
 
-fn function_of(
+/// A function, as far as its closed variables go, among local functions of these numbers.
+pub fn function_of(
     alloc: Global,
     lambda: &Lambda,
     tags: &[Tag],
@@ -234,7 +235,7 @@ fn add_made(
 }
 
 /// The functions of a form: the local ones in the order of their numbers, and then the others.
-pub(crate) fn functions_in(
+pub fn functions_in(
     alloc: Global,
     events: &[Event<'_>],
     tags: &[Tag],
@@ -248,7 +249,8 @@ pub(crate) fn functions_in(
     Ok(table)
 }
 
-fn unite(numbers: &mut Vec<u32>, others: &[u32]) -> Result<(), AllocError>
+/// Adds the numbers that are not there yet, in their order.
+pub fn unite(numbers: &mut Vec<u32>, others: &[u32]) -> Result<(), AllocError>
     ensures { OnOk result (numbers.new.items ≡ union_of numbers.old.items others.now) }
 {
     for other in others {
@@ -260,7 +262,7 @@ fn unite(numbers: &mut Vec<u32>, others: &[u32]) -> Result<(), AllocError>
 }
 
 /// All to which these functions refer, each once.
-pub(crate) fn variables_in(alloc: Global, table: &[Function]) -> Result<Vec<u32>, AllocError>
+pub fn variables_in(alloc: Global, table: &[Function]) -> Result<Vec<u32>, AllocError>
     ensures { IfOk result (λ numbers. numbers.items ≡ all_referred [] (entries_list table.now)) }
 {
     let mut numbers = Vec::new(alloc);

@@ -1,11 +1,11 @@
-//! The number of closed copies of a top-level form.
+//! The number of closed copies of a top-level form, and what of its functions it is counted from.
 #![tactic(auto)]
 
 mod copies;
-mod functions;
+pub mod functions;
 mod marks;
 #[cfg(test)]
 mod tests;
-mod walk;
+pub mod walk;
 
 pub use copies::closed_copies;

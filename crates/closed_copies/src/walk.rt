@@ -14,7 +14,7 @@ use std::alloc::AllocError;
 
 /// What a node has to do with closed variables.
 #[derive(Clone, Copy)]
-pub(crate) enum Event<'a> {
+pub enum Event<'a> {
     /// A variable is read or set, or a block left.
     Refer(u32),
     /// A tag is gone to.
@@ -236,10 +236,7 @@ fn walk_items<'a>(events: &mut Vec<Event<'a>>, items: &'a [Item]) -> Result<(), 
 /// Notes the events of a function, its own parameters first.
 #[cycle(walking)]
 #[tactic(auto, using(std::proofs::lemmas::List::append_assoc), unfolding(core_form::specs::Facts::gather))]
-pub(crate) fn walk_lambda<'a>(
-    events: &mut Vec<Event<'a>>,
-    lambda: &'a Lambda,
-) -> Result<(), AllocError>
+pub fn walk_lambda<'a>(events: &mut Vec<Event<'a>>, lambda: &'a Lambda) -> Result<(), AllocError>
     ensures { OnOk result (events_list events.new.items ≡ events_list events.old.items ++ lambda_events (lambda_of lambda.now)) }
 {
     reads_nodes();
@@ -253,7 +250,7 @@ pub(crate) fn walk_lambda<'a>(
 /// Notes the events of a tree, those of a node before those of its parts.
 #[cycle(walking)]
 #[tactic(auto, using(std::proofs::lemmas::List::append_assoc), unfolding(core_form::specs::Facts::gather))]
-pub(crate) fn walk<'a>(events: &mut Vec<Event<'a>>, core: &'a Core) -> Result<(), AllocError>
+pub fn walk<'a>(events: &mut Vec<Event<'a>>, core: &'a Core) -> Result<(), AllocError>
     ensures { OnOk result (events_list events.new.items ≡ events_list events.old.items ++ events_of (core_of core.now)) }
 {
     reads_lists();

@@ -15,23 +15,23 @@ use Rattle.core_form.specs.State.{Symbol, Object, Pair, Vector, Str, Fun, Cell, 
 use Rattle.core_form.specs.Force.{Vals, is_true, symbol_kinds_of, keeping, in_force}
 use Rattle.core_form.specs.Step.{Around, inside, at_word, plain, with_tail, forced, deep, takes, all_lexical, entered, with_entry, with_catch}
 use Rattle.core_form.specs.Run.{Outcome, Gives, Leaves, Fails, NotYet, Run}
-use Rattle.core_form.specs.Eval.{Call, call_object, call_value, funcall, call_symbol, apply, call_with_values, call_local, known, known_or, with_special, with_variable, with_bindings, with_parameter, with_required, with_supplied, with_rest, for_variable, eval, args, gathered, progn, values_of, steps, steps_from, with_optionals, function_body, enter, call_code, no_call, call_to, Program, at_top, run_form, run_forms, start, table_of, evaluate, ending_of, Astray, state_of, output_of, counts_of}
+use Rattle.core_form.specs.Eval.{Call, call_object, call_value, funcall, call_symbol, apply, call_with_values, call_local, known, known_or, with_special, with_variable, with_bindings, with_parameter, with_required, with_supplied, with_rest, for_variable, eval, args, gathered, progn, values_of, steps, steps_from, with_optionals, function_body, enter, call_code, no_code, no_call, call_to, Program, at_top, run_form, run_forms, start, table_of, evaluate, ending_of, Astray, state_of, output_of, counts_of}
 use Rattle.core_form.specs.Growth.{CountsGrow, Reaches}
 use Rattle.core_form.specs.Laws.{MoreFuelKeeps, OutputStays, CountersStay, NeverAstray}
 use Rattle.core_form.proofs.Lasting.{counts_same, read_lasts, spend_lasts, allot_lasts, box_lasts, stack_lasts, hold_lasts, begin_lasts, entry_lasts}
 use Rattle.core_form.proofs.Acting.{one_lasts, make_list_lasts, raise_lasts, check_lasts, check_all_lasts, primitive_lasts, global_value_lasts, global_function_lasts, set_global_lasts, variable_lasts, set_variable_lasts, capture_lasts, make_function_lasts, make_local_lasts, designated_lasts, set_function_lasts, spread_lasts, not_too_many_lasts, enter_extent_lasts, return_lasts, go_leads, throw_lasts}
-use Rattle.core_form.proofs.Steady.{Limits, raised, Later, Ends, Steady, GoesTo, perform_steady, bind_steady, then_steady, pure_steady, stop_steady, stopped, either_steady, first_steady, visit_steady, call_steady, jump_steady, block_steady, catch_steady, tagbody_steady, change_value_steady, restoring_steady, guarded_steady, framed_steady, frame_steady}
+use Rattle.core_form.proofs.Steady.{Limits, raised, Later, Ends, Steady, GoesTo, perform_steady, bind_steady, then_steady, pure_steady, stop_steady, stopped, either_steady, first_steady, visit_steady, call_steady, jump_steady, block_steady, catch_steady, tagbody_steady, astray_steady, change_value_steady, restoring_steady, guarded_steady, framed_steady, frame_steady}
 
 -- two meanings of calls
 abbrev pub Calls : Limits → Call → Call → Type 0
 Calls w call after = (cx : Around) (k : ℕ) (ws vs : Vals) → Steady w (in_force cx.force) (call cx k ws vs) (after cx k ws vs)
 
 -- two ways to go on in any surroundings with the same exits
-abbrev Onward : Limits → Around → (k l : Around → Run Vals) → Type 0
+abbrev pub Onward : Limits → Around → (k l : Around → Run Vals) → Type 0
 Onward w cx k l = (to : Around) → (in_force to.force ≡ in_force cx.force) → Steady w (in_force to.force) (k to) (l to)
 
 module _ {w : Limits} (call after : Call) (same : Calls w call after) where
-  object_steady : (cx : Around) (vs : Vals) (o : Option Object) → Steady w (in_force cx.force) (call_object call cx vs o) (call_object after cx vs o)
+  pub object_steady : (cx : Around) (vs : Vals) (o : Option Object) → Steady w (in_force cx.force) (call_object call cx vs o) (call_object after cx vs o)
   unfolding call_object
   object_steady cx vs None = perform_steady (one_lasts nil)
   object_steady cx vs (Some (Pair a d)) = perform_steady (one_lasts nil)
@@ -40,7 +40,7 @@ module _ {w : Limits} (call after : Call) (same : Calls w call after) where
   object_steady cx vs (Some (Fun k closed)) = same cx k closed vs
   object_steady cx vs (Some (Cell v)) = perform_steady (one_lasts nil)
 
-  value_steady : (cx : Around) (vs : Vals) (v : Val) → Steady w (in_force cx.force) (call_value call cx vs v) (call_value after cx vs v)
+  pub value_steady : (cx : Around) (vs : Vals) (v : Val) → Steady w (in_force cx.force) (call_value call cx vs v) (call_value after cx vs v)
   unfolding call_value
   value_steady cx vs v = bind_steady (perform_steady (read_lasts _)) (λ o. object_steady cx vs o)
 
@@ -76,45 +76,45 @@ module _ {w : Limits} (call after : Call) (same : Calls w call after) where
 
 -- ---- variables
 
-special_steady : {w : Limits} {inn : ℕ → Bool} (s : SymId) (v : Val) {r q : Run Vals} → Steady w inn r q → Steady w inn (with_special s v r) (with_special s v q)
+pub special_steady : {w : Limits} {inn : ℕ → Bool} (s : SymId) (v : Val) {r q : Run Vals} → Steady w inn r q → Steady w inn (with_special s v r) (with_special s v q)
 unfolding with_special
 special_steady s v h =
     bind_steady (then_steady (perform_steady (box_lasts _)) (perform_steady (read_lasts _)))
     (λ old. restoring_steady s (then_steady (change_value_steady s (Some v)) h) old)
 
-variable_steady : {w : Limits} (cx : Around) (x : Variable) (v : Val) {k l : Around → Run Vals} → Onward w cx k l → Steady w (in_force cx.force) (with_variable cx x v k) (with_variable cx x v l)
+pub variable_steady : {w : Limits} (cx : Around) (x : Variable) (v : Val) {k l : Around → Run Vals} → Onward w cx k l → Steady w (in_force cx.force) (with_variable cx x v k) (with_variable cx x v l)
 unfolding with_variable
 variable_steady cx (Lexical x n) v h = then_steady (perform_steady (variable_lasts _ x v)) (h cx refl)
 variable_steady cx (Special s) v h =
     then_steady (perform_steady (stack_lasts _)) (special_steady s v (h (with_tail false (forced deep cx)) refl))
 
-bindings_steady : {w : Limits} (cx : Around) (bs : Bindings) (vs : Vals) {k l : Around → Run Vals} → Onward w cx k l → Steady w (in_force cx.force) (with_bindings cx bs vs k) (with_bindings cx bs vs l)
+pub bindings_steady : {w : Limits} (cx : Around) (bs : Bindings) (vs : Vals) {k l : Around → Run Vals} → Onward w cx k l → Steady w (in_force cx.force) (with_bindings cx bs vs k) (with_bindings cx bs vs l)
 unfolding with_bindings
 bindings_steady cx no_binding vs h = h cx refl
 bindings_steady cx (binding x e bs) [] h = h cx refl
 bindings_steady cx (binding x e bs) (v ∷ vs) h = variable_steady cx x.variable v (λ to e. bindings_steady to bs vs (λ to' e'. h to' (e' ∙ e)))
 
-parameter_steady : {w : Limits} (cx : Around) (p : Place) (x : Parameter) (v : Val) {k l : Around → Run Vals} → Onward w cx k l → Steady w (in_force cx.force) (with_parameter cx p x v k) (with_parameter cx p x v l)
+pub parameter_steady : {w : Limits} (cx : Around) (p : Place) (x : Parameter) (v : Val) {k l : Around → Run Vals} → Onward w cx k l → Steady w (in_force cx.force) (with_parameter cx p x v k) (with_parameter cx p x v l)
 unfolding with_parameter
 parameter_steady cx p x v h = then_steady (perform_steady (check_all_lasts cx.force p _ v)) (variable_steady cx x.variable v h)
 
-abbrev OnwardWith : Limits → Around → (k l : Around → Vals → Run Vals) → Type 0
+abbrev pub OnwardWith : Limits → Around → (k l : Around → Vals → Run Vals) → Type 0
 OnwardWith w cx k l = (to : Around) (vs : Vals) → (in_force to.force ≡ in_force cx.force) → Steady w (in_force to.force) (k to vs) (l to vs)
 
-required_steady : {w : Limits} (cx : Around) (p : Place) (xs : List Parameter) (vs : Vals) {k l : Around → Vals → Run Vals} → OnwardWith w cx k l →
+pub required_steady : {w : Limits} (cx : Around) (p : Place) (xs : List Parameter) (vs : Vals) {k l : Around → Vals → Run Vals} → OnwardWith w cx k l →
     Steady w (in_force cx.force) (with_required cx p xs vs k) (with_required cx p xs vs l)
 unfolding with_required
 required_steady cx p [] vs h = h cx vs refl
 required_steady cx p (x ∷ xs) [] h = h cx [] refl
 required_steady cx p (x ∷ xs) (v ∷ vs) h = parameter_steady cx p x v (λ to e. required_steady to p xs vs (λ to' ws e'. h to' ws (e' ∙ e)))
 
-supplied_steady : {w : Limits} (cx : Around) (p : Place) (x : Option Parameter) (b : Bool) {k l : Around → Run Vals} → Onward w cx k l →
+pub supplied_steady : {w : Limits} (cx : Around) (p : Place) (x : Option Parameter) (b : Bool) {k l : Around → Run Vals} → Onward w cx k l →
     Steady w (in_force cx.force) (with_supplied cx p x b k) (with_supplied cx p x b l)
 unfolding with_supplied
 supplied_steady cx p None b h = h cx refl
 supplied_steady cx p (Some x) b h = parameter_steady cx p x _ h
 
-rest_steady : {w : Limits} (cx : Around) (p : Place) (x : Option Parameter) (vs : Vals) {k l : Around → Run Vals} → Onward w cx k l →
+pub rest_steady : {w : Limits} (cx : Around) (p : Place) (x : Option Parameter) (vs : Vals) {k l : Around → Run Vals} → Onward w cx k l →
     Steady w (in_force cx.force) (with_rest cx p x vs k) (with_rest cx p x vs l)
 unfolding with_rest
 rest_steady cx p None vs h = h cx refl
@@ -124,7 +124,7 @@ rest_steady cx p (Some x) vs h = bind_steady (perform_steady (make_list_lasts vs
 
 module _ (w : Limits) (call after : Call) (same : Calls w call after) where
   -- the value for a variable is evaluated in surroundings with the same exits
-  for_steady : (cx : Around) (x : Variable) (e : Core) → ((to : Around) → Steady w (in_force to.force) (eval call w.lower to e) (eval after w.upper to e)) →
+  pub for_steady : (cx : Around) (x : Variable) (e : Core) → ((to : Around) → Steady w (in_force to.force) (eval call w.lower to e) (eval after w.upper to e)) →
       Steady w (in_force cx.force) (eval call w.lower (for_variable cx x) e) (eval after w.upper (for_variable cx x) e)
   for_steady cx (Lexical x k) e h = h (at_word (has_number x cx.text.facts.words) cx)
   for_steady cx (Special s) e h = h (inside cx)
@@ -187,32 +187,32 @@ module _ (w : Limits) (call after : Call) (same : Calls w call after) where
     args_steady cx no_core = pure_steady []
     args_steady cx (core e es) = bind_steady (first_steady (eval_steady cx e)) (λ v. bind_steady (args_steady cx es) (λ vs. pure_steady (v ∷ vs)))
 
-    gathered_steady : (cx : Around) (es : Cores) → Steady w (in_force cx.force) (gathered call w.lower cx es) (gathered after w.upper cx es)
+    pub gathered_steady : (cx : Around) (es : Cores) → Steady w (in_force cx.force) (gathered call w.lower cx es) (gathered after w.upper cx es)
     gathered_steady cx no_core = pure_steady []
     gathered_steady cx (core e es) =
         bind_steady (eval_steady cx e) (λ vs. bind_steady (then_steady (perform_steady (hold_lasts _)) (gathered_steady (forced (keeping (length vs)) cx) es)) (λ ws. pure_steady (vs ++ ws)))
 
-    progn_steady : (cx : Around) (es : Cores) → Steady w (in_force cx.force) (progn call w.lower cx es) (progn after w.upper cx es)
+    pub progn_steady : (cx : Around) (es : Cores) → Steady w (in_force cx.force) (progn call w.lower cx es) (progn after w.upper cx es)
     progn_steady cx no_core = perform_steady (one_lasts nil)
     progn_steady cx (core e no_core) = eval_steady cx e
     progn_steady cx (core e (core f es)) = then_steady (eval_steady (at_word true cx) e) (progn_steady cx (core f es))
 
-    values_steady : (cx : Around) (bs : Bindings) → Steady w (in_force cx.force) (values_of call w.lower cx bs) (values_of after w.upper cx bs)
+    pub values_steady : (cx : Around) (bs : Bindings) → Steady w (in_force cx.force) (values_of call w.lower cx bs) (values_of after w.upper cx bs)
     values_steady cx no_binding = pure_steady []
     values_steady cx (binding x e bs) =
         bind_steady (first_steady (for_steady cx x.variable e (λ to. eval_steady to e))) (λ v. bind_steady (values_steady cx bs) (λ vs. pure_steady (v ∷ vs)))
 
-    steps_steady : (cx : Around) (is : Items) → Steady w (in_force cx.force) (steps call w.lower cx is) (steps after w.upper cx is)
+    pub steps_steady : (cx : Around) (is : Items) → Steady w (in_force cx.force) (steps call w.lower cx is) (steps after w.upper cx is)
     steps_steady cx no_item = pure_steady []
     steps_steady cx (tag t v is) = steps_steady cx is
     steps_steady cx (step e is) = then_steady (eval_steady (at_word true cx) e) (steps_steady cx is)
 
-    from_steady : (cx : Around) (t : ℕ) (is : Items) → Steady w (in_force cx.force) (steps_from call w.lower cx t is) (steps_from after w.upper cx t is)
-    from_steady cx t no_item = pure_steady []
+    pub from_steady : (cx : Around) (t : ℕ) (is : Items) → Steady w (in_force cx.force) (steps_from call w.lower cx t is) (steps_from after w.upper cx t is)
+    from_steady cx t no_item = astray_steady
     from_steady cx t (tag u v is) = either_steady (t == u) (steps_steady cx is) (from_steady cx t is)
     from_steady cx t (step e is) = from_steady cx t is
 
-    optionals_steady : (cx : Around) (p : Place) (os : Optionals) (vs : Vals) (k l : Around → Vals → Run Vals) → OnwardWith w cx k l →
+    pub optionals_steady : (cx : Around) (p : Place) (os : Optionals) (vs : Vals) (k l : Around → Vals → Run Vals) → OnwardWith w cx k l →
         Steady w (in_force cx.force) (with_optionals call w.lower cx p os vs k) (with_optionals after w.upper cx p os vs l)
     optionals_steady cx p no_optional vs k l h = h cx vs refl
     optionals_steady cx p (optional x e s os) [] k l h =
@@ -221,7 +221,7 @@ module _ (w : Limits) (call after : Call) (same : Calls w call after) where
     optionals_steady cx p (optional x e s os) (v ∷ vs) k l h =
         parameter_steady cx p x v (λ to q. supplied_steady to p s true (λ to' q'. optionals_steady to' p os vs k l (λ to'' ws q''. h to'' ws (q'' ∙ (q' ∙ q)))))
 
-    body_steady : (cx : Around) (p : Place) (vs : Vals) (l : Lambda) → Steady w (in_force cx.force) (function_body call w.lower cx p vs l) (function_body after w.upper cx p vs l)
+    pub body_steady : (cx : Around) (p : Place) (vs : Vals) (l : Lambda) → Steady w (in_force cx.force) (function_body call w.lower cx p vs l) (function_body after w.upper cx p vs l)
     body_steady cx p vs (lambda k xs os r e) =
         required_steady cx p xs vs (λ cx1 ws q1. optionals_steady cx1 p os ws (λ cx2 us. with_rest cx2 p r us (λ cx3. eval call w.lower cx3 e)) (λ cx2 us. with_rest cx2 p r us (λ cx3. eval after w.upper cx3 e))
         (λ cx2 us q2. rest_steady cx2 p r us (λ cx3 q3. eval_steady cx3 e)))
@@ -236,7 +236,7 @@ module _ (w : Limits) (call after : Call) (same : Calls w call after) where
       (framed_steady cx.text.tail (frame_steady (zip (closed_of c.facts c.text) ws)
       (either_steady (takes c.text.lambda (length vs)) (body_steady to c.text.place vs c.text.lambda) (perform_steady (raise_lasts to.force _ c.text.place)))))
 
-  form_steady : (symbols : List Symbol) (k : ℕ) (t : Top) → Steady w (λ e. false) (run_form call w.lower symbols k t) (run_form after w.upper symbols k t)
+  pub form_steady : (symbols : List Symbol) (k : ℕ) (t : Top) → Steady w (λ e. false) (run_form call w.lower symbols k t) (run_form after w.upper symbols k t)
   unfolding run_form
   form_steady symbols k t =
       let cx = at_top symbols (facts_of (symbol_kinds_of symbols) k t) in
@@ -251,35 +251,48 @@ module _ (w : Limits) (call after : Call) (same : Calls w call after) where
 -- ---- depths
 
 -- a call takes fuel, and the calls inside it have taken one more
-code_steady : (w : Limits) (call after : Call) → Calls (raised w) call after → (cx : Around) (ws vs : Vals) (o : Option Code) → Steady w (in_force cx.force) (call_code call w.lower cx ws vs o) (call_code after w.upper cx ws vs o)
+pub code_steady : (w : Limits) (call after : Call) → Calls (raised w) call after → (cx : Around) (ws vs : Vals) (o : Option Code) → Steady w (in_force cx.force) (call_code call w.lower cx ws vs o) (call_code after w.upper cx ws vs o)
 unfolding call_code
 code_steady w call after same cx ws vs None = perform_steady (one_lasts nil)
 code_steady w call after same cx ws vs (Some c) = call_steady (enter_steady (raised w) call after same cx ws vs c)
 
-no_calls : (w : Limits) → suc w.lower ≤ w.low → Calls w no_call no_call
+pub no_codes : (w : Limits) → suc w.lower ≤ w.low → {inn : ℕ → Bool} (o : Option Code) → Steady w inn (no_code o) (no_code o)
+unfolding no_code
+no_codes w much None = perform_steady (one_lasts nil)
+no_codes w much (Some c) = stop_steady much (λ s. stopped s)
+
+pub no_calls : (table : List Code) (w : Limits) → suc w.lower ≤ w.low → Calls w (no_call table) (no_call table)
 unfolding no_call
-no_calls w much cx k ws vs = stop_steady much (λ s. stopped s)
+no_calls table w much cx k ws vs = no_codes w much (slice_get table k)
+
+-- the first stops, and nothing of the second is compared
+pub stopped_code : (w : Limits) → suc w.lower ≤ w.low → (after : Call) → (cx : Around) (ws vs : Vals) → (o : Option Code) →
+    ((s : State) → Later w.upper (in_force cx.force) s.taken s (call_code after w.upper cx ws vs o s)) → Steady w (in_force cx.force) (no_code o) (call_code after w.upper cx ws vs o)
+unfolding no_code call_code
+stopped_code w much after cx ws vs None later = perform_steady (one_lasts nil)
+stopped_code w much after cx ws vs (Some c) later = stop_steady much later
 
 -- the second meaning of a call, of which nothing is compared
-abbrev LaterCalls : ℕ → Call → Type 0
+abbrev pub LaterCalls : ℕ → Call → Type 0
 LaterCalls upper after = (cx : Around) (k : ℕ) (ws vs : Vals) (s : State) → Later upper (in_force cx.force) s.taken s (after cx k ws vs s)
 
-stopped_calls : (w : Limits) → suc w.lower ≤ w.low → (after : Call) → LaterCalls w.upper after → Calls w no_call after
-unfolding no_call
-stopped_calls w much after later cx k ws vs = stop_steady much (later cx k ws vs)
+pub stopped_calls : (table : List Code) (w : Limits) → suc w.lower ≤ w.low → (e : ℕ) → LaterCalls w.upper (call_to table w.upper e) → Calls w (no_call table) (call_to table w.upper e)
+unfolding no_call call_to
+stopped_calls table w much zero later cx k ws vs = stopped_code w much (no_call table) cx ws vs (slice_get table k) (later cx k ws vs)
+stopped_calls table w much (suc e) later cx k ws vs = stopped_code w much (call_to table w.upper e) cx ws vs (slice_get table k) (later cx k ws vs)
 
 -- the same limit twice
-abbrev level : ℕ → Limits
+abbrev pub level : ℕ → Limits
 level m = record { lower = m; upper = m; low = m; bound = 0; ordered = omega arith; past = omega arith; most = omega arith }
 
 -- so much was taken before that the depth is enough
-depth_steady : (table : List Code) (w : Limits) (d e : ℕ) → d ≤ e → w.lower ≤ w.low + d → Calls w (call_to table w.lower d) (call_to table w.upper e)
+pub depth_steady : (table : List Code) (w : Limits) (d e : ℕ) → d ≤ e → w.lower ≤ w.low + d → Calls w (call_to table w.lower d) (call_to table w.upper e)
 unfolding call_to
 depth_steady table w zero zero de much cx k ws vs =
-    code_steady w no_call no_call (no_calls (raised w) (omega (arith, much))) cx ws vs (slice_get table k)
+    code_steady w (no_call table) (no_call table) (no_calls table (raised w) (omega (arith, much))) cx ws vs (slice_get table k)
 depth_steady table w zero (suc e) de much cx k ws vs =
-    code_steady w no_call (call_to table w.upper e)
-    (stopped_calls (raised w) (omega (arith, much)) (call_to table w.upper e) (λ cx' k' ws' vs' s. ((depth_steady table (level w.upper) e e (omega arith) (omega arith) cx' k' ws' vs').ends s).later))
+    code_steady w (no_call table) (call_to table w.upper e)
+    (stopped_calls table (raised w) (omega (arith, much)) e (λ cx' k' ws' vs' s. ((depth_steady table (level w.upper) e e (omega arith) (omega arith) cx' k' ws' vs').ends s).later))
     cx ws vs (slice_get table k)
 depth_steady table w (suc d) zero de much cx k ws vs = absurd (omega (arith, de))
 depth_steady table w (suc d) (suc e) de much cx k ws vs =
@@ -309,10 +322,10 @@ pub more_fuel : MoreFuelKeeps
 more_fuel p input n m le = (evaluate_ends p input n m 0 le (omega arith) (omega arith)).reaches
 
 -- what was written before stands first
-prefix : (a b : List ℕ) → (w : List ℕ) × (b ≡ w ++ a) → (more : List ℕ) × (reverse b ≡ reverse a ++ more)
+pub prefix : (a b : List ℕ) → (w : List ℕ) × (b ≡ w ++ a) → (more : List ℕ) × (reverse b ≡ reverse a ++ more)
 prefix a b w = (reverse w.0, ap (λ (l : List ℕ). reverse l) w.1 ∙ reverse-append w.0 a)
 
-output_reaches : (o w : Outcome Val) → Reaches o w → (more : List ℕ) × (output_of w ≡ output_of o ++ more)
+pub output_reaches : (o w : Outcome Val) → Reaches o w → (more : List ℕ) × (output_of w ≡ output_of o ++ more)
 output_reaches (Gives v s) w e = ([], ap (λ (u : Outcome Val). output_of u) e ∙ sym (append-nil _))
 output_reaches (Leaves x s) w e = ([], ap (λ (u : Outcome Val). output_of u) e ∙ sym (append-nil _))
 output_reaches (Fails x p s) w e = ([], ap (λ (u : Outcome Val). output_of u) e ∙ sym (append-nil _))
@@ -321,7 +334,7 @@ output_reaches (NotYet s) w e = prefix s.output (state_of w).output e.output
 pub output_stays : OutputStays
 output_stays p input n m le = output_reaches (evaluate p input n) (evaluate p input m) (more_fuel p input n m le)
 
-counts_reach : (o w : Outcome Val) → Reaches o w → CountsGrow (counts_of o) (counts_of w)
+pub counts_reach : (o w : Outcome Val) → Reaches o w → CountsGrow (counts_of o) (counts_of w)
 counts_reach (Gives v s) w e = subst (λ (u : Outcome Val). CountsGrow s.counts (counts_of u)) (sym e) (counts_same s.counts)
 counts_reach (Leaves x s) w e = subst (λ (u : Outcome Val). CountsGrow s.counts (counts_of u)) (sym e) (counts_same s.counts)
 counts_reach (Fails x p s) w e = subst (λ (u : Outcome Val). CountsGrow s.counts (counts_of u)) (sym e) (counts_same s.counts)
@@ -330,7 +343,7 @@ counts_reach (NotYet s) w e = e.counts
 pub counters_stay : CountersStay
 counters_stay p input n m le = counts_reach (evaluate p input n) (evaluate p input m) (more_fuel p input n m le)
 
-not_astray : (o : Outcome Val) → GoesTo (λ e. false) o → ending_of o ≡ Astray → ⊥
+pub not_astray : (o : Outcome Val) → GoesTo (λ e. false) o → ending_of o ≡ Astray → ⊥
 not_astray (Gives v s) h e = cc
 not_astray (Leaves x s) h e = cc
 not_astray (Fails x p s) h e = cc

@@ -21,7 +21,7 @@ counts_same c = record {
   walked = omega arith;
 }
 
-counts_on : {a b c : Counts} → CountsGrow a b → CountsGrow b c → CountsGrow a c
+pub counts_on : {a b c : Counts} → CountsGrow a b → CountsGrow b c → CountsGrow a c
 counts_on g h = record {
   cost = omega (arith, g.cost, h.cost);
   heap_words = omega (arith, g.heap_words, h.heap_words);
@@ -38,7 +38,7 @@ counts_on g h = record {
 pub grows_same : (s : State) → Grows s s
 grows_same s = record { output = ([], refl); counts = counts_same s.counts; taken = omega arith }
 
-written_on : {A : Type 0} {a b c : List A} → (w : List A) × (b ≡ w ++ a) → (w : List A) × (c ≡ w ++ b) → (w : List A) × (c ≡ w ++ a)
+pub written_on : {A : Type 0} {a b c : List A} → (w : List A) × (b ≡ w ++ a) → (w : List A) × (c ≡ w ++ b) → (w : List A) × (c ≡ w ++ a)
 written_on {a = a} p q = (q.0 ++ p.0, q.1 ∙ ap (λ l. q.0 ++ l) p.1 ∙ sym (append_assoc q.0 p.0 a))
 
 pub grows_on : {a b c : State} → Grows a b → Grows b c → Grows a c
@@ -83,22 +83,22 @@ pub record Lasts {A : Type 0} (inn : ℕ → Bool) (m : Effect A) : Type 0 where
   pub leads : Leads inn m
   pub apart : (s : State) → IsApart (m s)
 
-then_grows : {A B : Type 0} → (g : A → Effect B) → ((a : A) (t : State) → Grows t (after (g a t))) → (o : Ended A) → Grows (after o) (after (and_then o g))
+pub then_grows : {A B : Type 0} → (g : A → Effect B) → ((a : A) (t : State) → Grows t (after (g a t))) → (o : Ended A) → Grows (after o) (after (and_then o g))
 then_grows g h (Gave a t) = h a t
 then_grows g h (Left e t) = grows_same t
 then_grows g h (Failed x p t) = grows_same t
 
-then_goes : {A B : Type 0} (inn : ℕ → Bool) → (g : A → Effect B) → ((a : A) (t : State) → Goes inn (g a t)) → (o : Ended A) → Goes inn o → Goes inn (and_then o g)
+pub then_goes : {A B : Type 0} (inn : ℕ → Bool) → (g : A → Effect B) → ((a : A) (t : State) → Goes inn (g a t)) → (o : Ended A) → Goes inn o → Goes inn (and_then o g)
 then_goes inn g h (Gave a t) i = h a t
 then_goes inn g h (Left e t) i = i
 then_goes inn g h (Failed x p t) i = tt
 
-then_quiet : {A B : Type 0} → (g : A → Effect B) → ((a : A) (t : State) → (after (g a t)).taken ≡ t.taken) → (o : Ended A) → (after (and_then o g)).taken ≡ (after o).taken
+pub then_quiet : {A B : Type 0} → (g : A → Effect B) → ((a : A) (t : State) → (after (g a t)).taken ≡ t.taken) → (o : Ended A) → (after (and_then o g)).taken ≡ (after o).taken
 then_quiet g h (Gave a t) = h a t
 then_quiet g h (Left e t) = refl
 then_quiet g h (Failed x p t) = refl
 
-then_apart : {A B : Type 0} → (g : A → Effect B) → ((a : A) (t : State) → IsApart (g a t)) → (o : Ended A) → IsApart o → IsApart (and_then o g)
+pub then_apart : {A B : Type 0} → (g : A → Effect B) → ((a : A) (t : State) → IsApart (g a t)) → (o : Ended A) → IsApart o → IsApart (and_then o g)
 then_apart g h (Gave a t) i = h a t
 then_apart g h (Left e t) i = i
 then_apart g h (Failed x p t) i = tt
@@ -114,7 +114,7 @@ bind_leads {inn = inn} {m = m} {g = g} h i = record {
 pub then_leads : {A B : Type 0} {inn : ℕ → Bool} {m : Effect A} {g : Effect B} → Leads inn m → Leads inn g → Leads inn (m >> g)
 then_leads h i = bind_leads h (λ a. i)
 
-bind_apart : {A B : Type 0} {inn : ℕ → Bool} {m : Effect A} {g : A → Effect B} → Lasts inn m → ((a : A) → Lasts inn (g a)) → (s : State) → IsApart ((m >>= g) s)
+pub bind_apart : {A B : Type 0} {inn : ℕ → Bool} {m : Effect A} {g : A → Effect B} → Lasts inn m → ((a : A) → Lasts inn (g a)) → (s : State) → IsApart ((m >>= g) s)
 unfolding ◌>>=◌
 bind_apart {m = m} {g = g} h i s = then_apart g (λ a. (i a).apart) (m s) (h.apart s)
 
@@ -142,7 +142,7 @@ pub leave_leads : {A : Type 0} {inn : ℕ → Bool} → (e : Exit) → inn e.ent
 unfolding leave
 leave_leads e h = record { grows = λ s. grows_same s; goes = λ s. h; quiet = λ s. refl }
 
-leave_apart : (A : Type 0) (e : Exit) → e.tag ≡ None → (s : State) → IsApart (leave {A = A} e s)
+pub leave_apart : (A : Type 0) (e : Exit) → e.tag ≡ None → (s : State) → IsApart (leave {A = A} e s)
 unfolding leave
 leave_apart A e h s = h
 
@@ -157,7 +157,7 @@ change_lasts f g q = record { leads = record { grows = g; goes = λ s. tt; quiet
 abbrev pub Quiet : (State → State) → Type 0
 Quiet f = (s : State) → ((f s).output ≡ s.output) × ((f s).counts ≡ s.counts) × ((f s).taken ≡ s.taken)
 
-quiet_grows : (s t : State) → t.output ≡ s.output → t.counts ≡ s.counts → t.taken ≡ s.taken → Grows s t
+pub quiet_grows : (s t : State) → t.output ≡ s.output → t.counts ≡ s.counts → t.taken ≡ s.taken → Grows s t
 quiet_grows s t o c n = record {
   output = ([], o);
   counts = record {
@@ -178,7 +178,7 @@ quiet_grows s t o c n = record {
 pub quiet_lasts : {inn : ℕ → Bool} → (f : State → State) → Quiet f → Lasts inn (change f)
 quiet_lasts f q = change_lasts f (λ s. quiet_grows s (f s) (q s).0 (q s).1 (q s).2) (λ s. (q s).2)
 
-counting_lasts : {inn : ℕ → Bool} → (f : Counts → Counts) → ((c : Counts) → CountsGrow c (f c)) → Lasts inn (counting f)
+pub counting_lasts : {inn : ℕ → Bool} → (f : Counts → Counts) → ((c : Counts) → CountsGrow c (f c)) → Lasts inn (counting f)
 unfolding counting
 counting_lasts f g = change_lasts (λ s. record s { counts = f s.counts }) (λ s. record { output = ([], refl); counts = g s.counts; taken = omega arith }) (λ s. refl)
 

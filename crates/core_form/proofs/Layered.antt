@@ -16,14 +16,14 @@ use Rattle.core_form.specs.Laws.{ProgramsAreByFuel, ProgramsAreNeverFull, Progra
 use Rattle.core_form.proofs.Fuel.{more_fuel, output_stays, counters_stay, never_astray}
 use Rattle.core_form.proofs.Taken.{takes_within, unfinished_took_all, enough_was_taken, taken_stays}
 
-needs_grow : (symbols : List Symbol) (o w : Outcome Val) → CountsGrow (counts_of o) (counts_of w) → NeedsNoLess (seen_of symbols w) (seen_of symbols o)
+pub needs_grow : (symbols : List Symbol) (o w : Outcome Val) → CountsGrow (counts_of o) (counts_of w) → NeedsNoLess (seen_of symbols w) (seen_of symbols o)
 needs_grow symbols o w g = record {
   work = omega (arith, g.cost, g.begun, g.extra, g.looked, g.walked);
   heap = omega (arith, g.heap_words, g.boxes);
   stack = omega (arith, g.stack_words, g.held);
 }
 
-later : (p : Program) (i : Input) (n m : ℕ) → n ≤ m → IsLater (program_layer p i n) (program_layer p i m)
+pub later : (p : Program) (i : Input) (n m : ℕ) → n ≤ m → IsLater (program_layer p i n) (program_layer p i m)
 later p i n m le = record {
   output = output_stays p i.letters n m le;
   fuel = taken_stays p i.letters n m le;
@@ -31,19 +31,19 @@ later p i n m le = record {
 }
 
 -- what no longer runs is the same with more
-stays_by : (symbols : List Symbol) (o w : Outcome Val) → Reaches o w → status_of symbols o ≢ Runs → w ≡ o
+pub stays_by : (symbols : List Symbol) (o w : Outcome Val) → Reaches o w → status_of symbols o ≢ Runs → w ≡ o
 stays_by symbols (Gives v s) w r over = r
 stays_by symbols (Leaves x s) w r over = r
 stays_by symbols (Fails x q s) w r over = r
 stays_by symbols (NotYet s) w r over = absurd (over refl)
 
-runs_unfinished : (symbols : List Symbol) (o : Outcome Val) → status_of symbols o ≡ Runs → ending_of o ≡ Unfinished
+pub runs_unfinished : (symbols : List Symbol) (o : Outcome Val) → status_of symbols o ≡ Runs → ending_of o ≡ Unfinished
 runs_unfinished symbols (Gives v s) e = absurd (cc)
 runs_unfinished symbols (Leaves x s) e = absurd (cc)
 runs_unfinished symbols (Fails x q s) e = absurd (cc)
 runs_unfinished symbols (NotYet s) e = refl
 
-lawful : (p : Program) → IsLawful (program_layer p)
+pub lawful : (p : Program) → IsLawful (program_layer p)
 lawful p = record {
   later = λ i k. later p i k (suc k) (omega arith);
   stays = λ i k over. ap (λ (o : Outcome Val). seen_of p.symbols o)
@@ -58,7 +58,7 @@ programs_are_by_fuel p = record {
   enough = λ i n. ap (λ (o : Outcome Val). seen_of p.symbols o) (enough_was_taken p i.letters n);
 }
 
-never_full : (symbols : List Symbol) (o : Outcome Val) → ¬ IsFull (seen_of symbols o)
+pub never_full : (symbols : List Symbol) (o : Outcome Val) → ¬ IsFull (seen_of symbols o)
 never_full symbols (Gives v s) (inl h) = cc
 never_full symbols (Gives v s) (inr h) = cc
 never_full symbols (Leaves x s) (inl h) = cc
@@ -71,7 +71,7 @@ never_full symbols (NotYet s) (inr h) = cc
 pub programs_are_never_full : ProgramsAreNeverFull
 programs_are_never_full p i k = never_full p.symbols (evaluate p i.letters k)
 
-astray_by : (symbols : List Symbol) (o : Outcome Val) → ending_of o ≢ Astray → status_of symbols o ≢ Ended shown.Astray
+pub astray_by : (symbols : List Symbol) (o : Outcome Val) → ending_of o ≢ Astray → status_of symbols o ≢ Ended shown.Astray
 astray_by symbols (Gives v s) h e = cc
 astray_by symbols (Leaves x s) h e = h refl
 astray_by symbols (Fails x q s) h e = cc
@@ -82,11 +82,11 @@ programs_never_go_astray p i k = astray_by p.symbols (evaluate p i.letters k) (n
 
 -- ---- a program and its forms
 
-taken_first : (xs ys : List Top) → take (length xs) (xs ++ ys) ≡ xs
+pub taken_first : (xs ys : List Top) → take (length xs) (xs ++ ys) ≡ xs
 taken_first [] ys = refl
 taken_first (x ∷ xs) ys = ap (λ (zs : List Top). x ∷ zs) (taken_first xs ys)
 
-dropped_first : (xs ys : List Top) → drop (length xs) (xs ++ ys) ≡ ys
+pub dropped_first : (xs ys : List Top) → drop (length xs) (xs ++ ys) ≡ ys
 dropped_first [] ys = refl
 dropped_first (x ∷ xs) ys = dropped_first xs ys
 

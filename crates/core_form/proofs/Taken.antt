@@ -11,7 +11,7 @@ use Rattle.core_form.proofs.Fuel.{evaluate_ends}
 
 pub takes_within : TakesWithin
 takes_within p input n =
-    (evaluate_ends p input n n 0 (omega arith) (omega arith) (omega arith)).later.within (omega arith)
+    (evaluate_ends p input n n 0 (omega arith) (omega arith) (omega arith)).later.within n (omega arith) (omega arith)
 
 -- what is taken with m where n is short
 passes : (p : Program) (input : List ℕ) (n m bound : ℕ) → n ≤ m → bound ≤ suc n → bound ≤ m → Passes bound (evaluate p input n) (evaluate p input m)

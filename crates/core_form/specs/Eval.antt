@@ -18,7 +18,7 @@ use Rattle.core_form.specs.Effect.{spend, allot, hold, stack_at, begin, box_all,
 use Rattle.core_form.specs.Force.{Vals, is_true, symbol_kinds_of, keeping, make_list, raise, object_at, check, check_all, holds, one}
 use Rattle.core_form.specs.Primitives.{truth_of, primitive, global_value, global_function, set_global, value_in, give}
 use Rattle.core_form.specs.Step.{Around, inside, at_word, plain, with_tail, forced, deep, held, new_variable, set_variable, capture, make_function, make_local, code_number, designated, set_function, takes, frame_words, all_lexical, entered, spread, not_too_many, enter_extent, with_entry, return_from, go_to, with_catch, throw}
-use Rattle.core_form.specs.Run.{Outcome, Gives, Leaves, Fails, NotYet, Run, ◌>>=◌, ◌>>◌, perform, pure, stop, take_fuel, first, visit, block_round, catch_round, tagbody_round, restoring, guarded, framed, in_frame}
+use Rattle.core_form.specs.Run.{Outcome, Gives, Leaves, Fails, NotYet, Run, ◌>>=◌, ◌>>◌, perform, pure, stop, take_fuel, first, visit, block_round, catch_round, astray, tagbody_round, restoring, guarded, framed, in_frame}
 
 -- a call of a function: the surroundings of the call, the number of the function, what it holds of the variables that it closes
 -- over, and the arguments
@@ -196,7 +196,7 @@ module _ (call : Call) (limit : ℕ) where
     steps cx (step e is) = eval (at_word true cx) e >> steps cx is
 
     pub steps_from : Around → ℕ → Items → Run Vals
-    steps_from cx t no_item = pure []
+    steps_from cx t no_item = astray
     steps_from cx t (tag u n is) = if t == u then steps cx is else steps_from cx t is
     steps_from cx t (step e is) = steps_from cx t is
 
@@ -227,12 +227,17 @@ unfoldable pub call_code : Call → ℕ → Around → Vals → Vals → Option 
 call_code call limit cx ws vs None = perform (one nil)
 call_code call limit cx ws vs (Some c) = take_fuel limit >> enter call limit cx ws vs c
 
-unfoldable pub no_call : Call
-no_call cx k ws vs = stop
+-- a call for which no depth is left
+unfoldable pub no_code : Option Code → Run Vals
+no_code None = perform (one nil)
+no_code (Some c) = stop
+
+unfoldable pub no_call : List Code → Call
+no_call table cx k ws vs = no_code (slice_get table k)
 
 -- What a call means to a depth of calls. Each takes fuel, so that a depth of the limit is enough.
 unfoldable pub call_to : List Code → ℕ → ℕ → Call
-call_to table limit zero cx k ws vs = call_code no_call limit cx ws vs (slice_get table k)
+call_to table limit zero cx k ws vs = call_code (no_call table) limit cx ws vs (slice_get table k)
 call_to table limit (suc n) cx k ws vs = call_code (call_to table limit n) limit cx ws vs (slice_get table k)
 
 -- ---- a program

@@ -1,10 +1,12 @@
 -- Stretches of a run that may take fuel, and what stands round one and sees it end. (This project's own.)
-use Rattle.std.specs.Prelude.{ℕ, zero, suc, ◌-◌, Bool, true, false, ◌==◌, List, [], length, Option, Some, None}
+use Rattle.std.specs.Prelude.{ℕ, zero, suc, ◌-◌, Bool, true, false, ◌==◌, List, length, Option, Some, None}
 use Rattle.lisp_base.specs.declared.values.SymId.{SymId}
 use Rattle.lisp_base.specs.declared.values.Val.{Val}
 use Rattle.lisp_base.specs.declared.values.Place.{Place}
-use Rattle.core_form.specs.State.{Fault, State, Exit, first_of_values}
-use Rattle.core_form.specs.Effect.{Ended, Gave, Left, Failed, Effect, change, leave, spend, box_all}
+use Rattle.lisp_base.specs.declared.values.Place.TheVariants.{File}
+use Rattle.lisp_base.specs.Sort.{nil}
+use Rattle.core_form.specs.State.{Fault, Control, State, Exit, first_of_values}
+use Rattle.core_form.specs.Effect.{Ended, Gave, Left, Failed, Effect, change, leave, fail, spend, box_all}
 use Rattle.core_form.specs.Force.{Vals}
 use Rattle.core_form.specs.Primitives.{give}
 use Rattle.core_form.specs.Step.{Around, deliver}
@@ -88,10 +90,14 @@ block_round n r = λ s. arrive n false (r s)
 unfoldable pub catch_round : (entry : ℕ) → Run Vals → Run Vals
 catch_round n r = λ s. arrive n true (r s)
 
--- an exit to this tagbody goes on at its tag; without one, which no checked tree has, it ends the tagbody
+-- a jump to a tag that its tagbody doesn't have, as of no checked tree
+unfoldable pub astray : Run Vals
+astray = perform (fail (Control nil) (File 0 0))
+
+-- an exit to this tagbody goes on at its tag
 unfoldable pub jump : (here : Bool) → (tag : Option ℕ) → (ℕ → Run Vals) → Exit → Run Vals
 jump true (Some t) r e = r t
-jump true None r e = pure []
+jump true None r e = astray
 jump false tag r e = perform (leave e)
 
 -- at most so many jumps to the tags of one tagbody; each takes fuel before

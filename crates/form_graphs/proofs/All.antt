@@ -1,7 +1,6 @@
--- Every form does in its graph what it does, where calls and tagbodies do.
+-- Every form does in its graph what it does, where calls do and keep the time of the limit.
 use Rattle.std.proofs.Common.{◌≡◌, ℕ, true, false, List, Some}
 use Rattle.std.specs.Prelude.{slice_get}
-use Rattle.lisp_base.specs.declared.values.Place.{Place}
 use Rattle.core_form.specs.Tree.{Core, Quote, Local, SetLocal, Global, SetGlobal, If, Progn, Let, Function, Labels, CallLocal, CallGlobal, Funcall, Apply, MvCall, FunLocal, FunGlobal, SetFun, Primitive, Is, The, Block, ReturnFrom, Tagbody, Go, Catch, Throw, Unwind, Values, MvProg1, Cores, no_core, core, Bindings, no_binding, binding, Items, no_item, tag, step}
 use Rattle.core_form.specs.Facts.{Facts}
 use Rattle.core_form.specs.State.{Symbol}
@@ -17,7 +16,8 @@ use Rattle.form_graphs.proofs.Sequences.{progn_does, labels_does}
 use Rattle.form_graphs.proofs.Exits.{return_from_does, throw_does, go_does}
 use Rattle.form_graphs.proofs.Extents.{block_does, catch_does}
 use Rattle.form_graphs.proofs.Cleanups.{mv_prog1_does, unwind_does}
-use Rattle.form_graphs.proofs.Tagbodies.{ItemsDo}
+use Rattle.form_graphs.proofs.Timely.{IsTimely}
+use Rattle.form_graphs.proofs.Tagbodies.{ItemsDo, tagbody_does}
 use Rattle.form_graphs.proofs.Calls.{AllDo as ArgumentsDo}
 use Rattle.form_graphs.proofs.CallForms.{call_global_does, apply_does, call_local_does, funcall_does}
 use Rattle.form_graphs.proofs.CallValues.{mv_call_does}
@@ -29,13 +29,7 @@ module _ (symbols : List Symbol) (graphs : List FlowGraph) (number : ℕ) (g : F
   arguments_do no_core all = tt
   arguments_do (core e es) (does, all) = (does false false, arguments_do es all)
 
-  -- A tagbody does what it does if its forms do. It is shown where every exit to it has one of its tags (Tagbodies); of all
-  -- states, those of no run among them, it isn't so, and what follows says nothing of a graph in which a tagbody stands.
-  abbrev pub TagbodiesDo : Type 0
-  TagbodiesDo =
-      (pl : Place) (is : Items) → ((low : ℕ) → ItemsDo symbols graphs number g facts rank there call limit low is) → AlwaysDoes symbols graphs number g facts rank there call limit (Tagbody pl is)
-
-  module _ (calls_do : CallsDo symbols graphs call) (begins : facts.start ≡ first_function graphs number) (tagbodies_do : TagbodiesDo) where
+  module _ (calls_do : CallsDo symbols graphs call) (begins : facts.start ≡ first_function graphs number) (timely : IsTimely limit call) where
     mutual
       -- wherever a form stands in the graph it does what it does
       pub all_do : (e : Core) → AlwaysDoes symbols graphs number g facts rank there call limit e
@@ -75,7 +69,7 @@ module _ (symbols : List Symbol) (graphs : List FlowGraph) (number : ℕ) (g : F
           block_does symbols graphs number g facts rank there call limit t w pl b name e n l low to p q (λ r. all_do e _ _ _ _ _ _ _ _)
       all_do (ReturnFrom pl b e) t w n l low to p q =
           return_from_does symbols graphs number g facts rank there call limit t w pl b e n l low to p q (λ j r. all_do e false _ _ _ _ _ _ _)
-      all_do (Tagbody pl is) t w n l low to p q = tagbodies_do pl is (items_do is) t w n l low to p q
+      all_do (Tagbody pl is) t w n l low to p q = tagbody_does symbols graphs number g facts rank there call limit low t w pl is n l to p q timely (items_do is low)
       all_do (Go pl u) t w n l low to p q = go_does symbols graphs number g facts rank there call limit t w pl u n l low to p q
       all_do (Catch pl e c) t w n l low to p q =
           catch_does symbols graphs number g facts rank there call limit t w pl e c n l low to p q (λ j r. all_do e false _ _ _ _ _ _ _) (λ r x. all_do c false _ _ _ _ _ _ _)

@@ -127,19 +127,19 @@ module _ (symbols : List Symbol) (graphs : List FlowGraph) (number : ℕ) (g : F
   -- ---- a variable, and what is done with it
 
   -- where a variable is bound: whether that is in tail position, and what is in force
-  abbrev tail_in : Variable → Bool → Bool
+  abbrev pub tail_in : Variable → Bool → Bool
   tail_in (Lexical x n) t = t
   tail_in (Special s) t = false
 
-  abbrev force_in : Variable → Force → Force
+  abbrev pub force_in : Variable → Force → Force
   force_in (Lexical x n) f = f
   force_in (Special s) f = deep f
 
-  abbrev within : Variable → ℕ → Activation → Activation
+  abbrev pub within : Variable → ℕ → Activation → Activation
   within x k a = with_force (force_in x a.force) (having (without_all (k ∷ []) a.delivered) a)
 
   -- A variable is bound to what a continuation holds, then something is done, and the variable's extent ends.
-  variable_comes : (x : Variable) (low : ℕ) (to : Option ℕ) (p q r : Spot) (l : Passes) (pl : Place) (t w : Bool) (k : ℕ) (body : Around → Run Vals) (a : Activation) (ws : List Waiting) (s : State) → a.graph ≡ number → low ≤ rank k →
+  pub variable_comes : (x : Variable) (low : ℕ) (to : Option ℕ) (p q r : Spot) (l : Passes) (pl : Place) (t w : Bool) (k : ℕ) (body : Around → Run Vals) (a : Activation) (ws : List Waiting) (s : State) → a.graph ≡ number → low ≤ rank k →
       Unasserted g k → BoundAt g facts rank pl x k p → UnboundAt g facts rank pl x r q →
       ((ws' : List Waiting) (u : State) → Comes symbols graphs rank (going (at_spot (next p) (within x k a)) ws' u) low to r l (within x k a) ws' (body (around facts (tail_in x t) w (force_in x a.force)) u)) →
       Comes symbols graphs rank (going (at_spot p a) ws s) low to q l a ws (with_variable (around facts t w a.force) x (value_at a.delivered k) body s)

@@ -39,7 +39,7 @@ and_then_same (Left e s) f h same = refl
 and_then_same (Failed x p s) f h same = refl
 
 -- effects one after another, and then a machine
-after_all : {A B : Type 0} (a : Activation) (ws : List Waiting) (r : Ended A) (f : Effect B) (h : B → Effect B) (m : B → State → Machine) →
+pub after_all : {A B : Type 0} (a : Activation) (ws : List Waiting) (r : Ended A) (f : Effect B) (h : B → Effect B) (m : B → State → Machine) →
     after_effect a ws (λ x s. after_effect a ws m (and_then_effect (f s) h)) r ≡ after_effect a ws m (and_then_effect (and_then_effect r (λ x. f)) h)
 after_all a ws (Gave x s) f h m = refl
 after_all a ws (Left e s) f h m = refl
@@ -48,13 +48,13 @@ after_all a ws (Failed x p s) f h m = refl
 -- ---- what is asserted on operands
 
 -- nothing after an effect
-nothing_more : (r : Ended (Unit {0})) → and_then_effect r (λ u s. Gave tt s) ≡ r
+pub nothing_more : (r : Ended (Unit {0})) → and_then_effect r (λ u s. Gave tt s) ≡ r
 nothing_more (Gave u s) = refl
 nothing_more (Left e s) = refl
 nothing_more (Failed x p s) = refl
 
 -- a value is tested by what is asserted on its continuation
-one_test : (g : FlowGraph) (f : Force) (k : ℕ) (pl : Place) (t : Spec) (v : Val) (s : State) → Asserted g k pl t → test_all f (assertions_on (g.cont k)) v s ≡ expect f pl t v s
+pub one_test : (g : FlowGraph) (f : Force) (k : ℕ) (pl : Place) (t : Spec) (v : Val) (s : State) → Asserted g k pl t → test_all f (assertions_on (g.cont k)) v s ≡ expect f pl t v s
 unfolding test_all test pure ◌>>=◌
 one_test g f k pl t v s (asserted, only, type, place, checked) = rw (only, checked, type, place) (nothing_more (expect f pl t v s))
 

@@ -9,7 +9,7 @@ use Rattle.core_form.specs.Run.{Outcome, Gives, Leaves, Fails, NotYet}
 use Rattle.core_form.specs.Eval.{Call}
 use Rattle.icr_graph.specs.declared.nodes.Node.{Node}
 use Rattle.icr_graph.specs.Plain.{FlowGraph}
-use Rattle.graph_meaning.specs.Machine.{Activation, Waiting, Leaving, Stopped, Machine}
+use Rattle.graph_meaning.specs.Machine.{Activation, Waiting, Returning, Leaving, Stopped, Machine}
 use Rattle.graph_meaning.specs.Running.{gives, calling, node_of}
 use Rattle.form_graphs.specs.Landing.{Reaches, RunsOut}
 
@@ -26,6 +26,17 @@ module _ (symbols : List Symbol) (graphs : List FlowGraph) where
   CallComes m nd b ws (Fails x p s) =
       (here : Activation) × (waiting : List Waiting) × Reaches symbols graphs m (record { control = Stopped x p; here = here; waiting = waiting; state = s })
   CallComes m nd b ws (NotYet s) = (m' : Machine) × Reaches symbols graphs m m' × RunsOut symbols graphs s m'
+
+  -- What a run from machine m, somewhere in the code of a function or a form of graph n, comes to where that code gives this:
+  -- the function returns the values, with nothing more waiting; the exit is on its way; the same error; or the fuel ends.
+  abbrev pub CodeComes : (graph : ℕ) → Machine → List Waiting → Outcome Vals → Type 0
+  CodeComes n m ws (Gives us s) =
+      (here : Activation) × (here.graph ≡ n) × Reaches symbols graphs m (record { control = Returning us; here = here; waiting = ws; state = s })
+  CodeComes n m ws (Leaves e s) =
+      (here : Activation) × Reaches symbols graphs m (record { control = Leaving e; here = here; waiting = ws; state = s })
+  CodeComes n m ws (Fails x p s) =
+      (here : Activation) × (waiting : List Waiting) × Reaches symbols graphs m (record { control = Stopped x p; here = here; waiting = waiting; state = s })
+  CodeComes n m ws (NotYet s) = (m' : Machine) × Reaches symbols graphs m m' × RunsOut symbols graphs s m'
 
   -- Every call from a node of the graphs does what it means.
   abbrev pub CallsDo : Call → Type 0

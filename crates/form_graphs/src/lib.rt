@@ -1,2 +1,6 @@
-//! Which flow graphs are those of a program's forms, and that they do what the forms do.
+//! Which flow graphs are those of forms, and that they do what the forms do.
 #![tactic(auto)]
+
+mod laws;
+
+pub use laws::graphs_keep_forms;

@@ -4,6 +4,8 @@ use Rattle.lisp_base.specs.declared.values.SymId.{SymId}
 use Rattle.lisp_base.specs.declared.values.Val.{Val}
 use Rattle.lisp_base.specs.declared.values.Val.TheVariants.{Sym}
 use Rattle.lisp_base.specs.declared.values.Place.{Place}
+use Rattle.lisp_base.specs.declared.values.Place.TheVariants.{File}
+use Rattle.lisp_base.specs.Sort.{nil}
 use Rattle.core_form.specs.State.{Control as No_exit, State, Exit}
 use Rattle.core_form.specs.Effect.{Effect, ◌>>=◌, ◌>>◌, pure, change, read, stack_at, hold, box_all, new_entry}
 use Rattle.core_form.specs.Force.{Vals, Force, deeper, keeping, raise}
@@ -17,7 +19,7 @@ use Rattle.icr_graph.specs.declared.nodes.Node.{Node}
 use Rattle.icr_graph.specs.declared.nodes.Tag.{Tag}
 use Rattle.icr_graph.specs.declared.parts.Variable.{Variable}
 use Rattle.icr_graph.specs.Plain.{FlowGraph}
-use Rattle.graph_meaning.specs.Machine.{Delivered, Activation, Arrival, Waiting, Caller, Landing, Tagged, Guarding, Binding, Keeping, Giving, Going_on, Leaving, Machine, going, after, advanced, at_block, with_force, holding, values_at, value_at}
+use Rattle.graph_meaning.specs.Machine.{Delivered, Activation, Arrival, Waiting, Caller, Landing, Tagged, Guarding, Binding, Keeping, Giving, Going_on, Leaving, Stopped, Machine, going, after, advanced, at_block, with_force, holding, values_at, value_at}
 use Rattle.graph_meaning.specs.Reading.{variable_left}
 use Rattle.graph_meaning.specs.Effects.{delivered_by, held_by}
 
@@ -131,9 +133,9 @@ abbrev pub block_for : Option ℕ → List Tag → Option ℕ
 block_for None tags = None
 block_for (Some t) tags = block_of_tag t tags
 
--- at a tag of a tagbody, which goes on; an exit without such a tag, as in no whole graph, passes it
+-- at a tag of a tagbody, which goes on; an exit without such a tag, as of no checked tree, ends the run
 abbrev pub at_tag : Exit → Option ℕ → (entry : ℕ) → List Tag → Force → Activation → List Waiting → State → Machine
-at_tag e None n tags f a ws s = on_its_way e a ws s
+at_tag e None n tags f a ws s = record { control = Stopped (No_exit nil) (File 0 0); here = a; waiting = ws; state = s }
 at_tag e (Some b) n tags f a ws s = going (at_block b (with_force (with_entry n f) a)) (Tagged n tags f ∷ ws) s
 
 -- at a block or a CATCH: its values are delivered there

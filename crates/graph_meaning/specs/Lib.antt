@@ -5,4 +5,5 @@ pub mod Effects
 pub mod Extents
 pub mod Running
 pub mod AsLayer
+pub mod Laws
 pub mod Everything
