@@ -1,0 +1,7 @@
+-- The lemmas of this crate.
+pub mod Stepping
+pub mod Alike
+pub mod Nodes
+pub mod Steps
+pub mod Along
+pub mod Lists

@@ -1,0 +1,1 @@
+-- What it is for an edit of a graph to keep its meaning.

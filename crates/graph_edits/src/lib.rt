@@ -1,0 +1,4 @@
+//! That edits of a flow graph keep its meaning, whatever graphs run around it.
+#![tactic(auto)]
+
+mod laws;
