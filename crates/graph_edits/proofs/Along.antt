@@ -148,7 +148,7 @@ module _ (E : Edit) (rank : ℕ → ℕ → ℕ) (symbols : List Symbol) (graphs
           subst (λ (n : ℕ). Alike E (runs_at h (first_function graphs a.graph) (node_at h a.block a.index) a ws s) (runs_at h n (node_at h a.block a.index) a ws' s)) (lists.starts a.graph)
           (at_elsewhere E h (first_function graphs a.graph) (node_at h a.block a.index) a other w s)
 
-  module _ {b i b' i' : ℕ} {d d' : Delivered} (us : Vals) (born : ℕ) (f : Force) {ws ws' : List Waiting} (w : Waits E E.number ws ws') (s : State) where
+  module _ (b i b' i' : ℕ) (d d' : Delivered) (us : Vals) (born : ℕ) (f : Force) (ws ws' : List Waiting) (w : Waits E E.number ws ws') (s : State) where
     abbrev old : Activation
     old = activation_at E.number b i d us born f
 
@@ -190,7 +190,7 @@ module _ (E : Edit) (rank : ℕ → ℕ → ℕ) (symbols : List Symbol) (graphs
   module _ (turns : Turns) where
     goes : {m m' : Machine} → Alike E m m' → Sure m m' → Goes m m'
     goes (alike Going u s (elsewhere a other) w) sure = inl (goes_elsewhere a other w s)
-    goes (alike Going u {ws = ws} {ws' = ws'} s (within us born f spot held) w) sure = goes_within us born f w s (turns.turn us born f ws ws' s sure spot held)
+    goes (alike Going u {ws = ws} {ws' = ws'} s (within {b} {i} {b'} {i'} {d} {d'} us born f spot held) w) sure = goes_within b i b' i' d d' us born f ws ws' w s (turns.turn us born f ws ws' s sure spot held)
     goes (alike (Calling tail k closed vs entry) u s st w) sure = absurd u
     goes (alike (Returning vs) u s st w) sure = inl (returns_alike E graphs graphs' lists vs st w s)
     goes (alike (Leaving e) u s st w) sure = inl (leave_on_alike E st w e s)
