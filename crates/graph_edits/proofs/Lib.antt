@@ -5,3 +5,5 @@ pub mod Nodes
 pub mod Steps
 pub mod Along
 pub mod Lists
+pub mod Reading
+pub mod AsOne

@@ -35,10 +35,11 @@ use Rattle.graph_edits.proofs.Alike.{Edit, with_others, of_kind, activation_at, 
 
 -- ---- where an If goes
 
--- an If goes on to the node behind it, or chooses between the same blocks
+-- an If goes on to the node behind it, or chooses between the same blocks; one with only one block to choose goes on
 pub data Chooses (E : Edit) (c : ℕ) : Option ℕ → Option ℕ → List ℕ → List ℕ → Type 0 where
   behind_both : (y y' : ℕ) {bs bs' : List ℕ} → Chooses E c (Some y) (Some y') bs bs'
   at_last : (bs : List ℕ) → AllArrive E c bs → Chooses E c None None bs bs
+  only_one : (y : ℕ) (z : ℕ) {bs' : List ℕ} → Chooses E c None (Some y) (z ∷ []) bs'
 
 -- what a node's kind names is alike in both graphs, where the node stands at these places of graphs of one number
 abbrev pub Fits : (E : Edit) (h h' : FlowGraph) (c b i b' i' : ℕ) → NodeKind → Type 0
@@ -77,6 +78,7 @@ module _ (E : Edit) (h : FlowGraph) (ns : ℕ → Option Node) (cs : ℕ → Opt
 
     branches_alike : (t : Bool) {o o' : Option ℕ} {xs xs' : List ℕ} → Chooses E c o o' xs xs' → (s : State) → Alike E (branches t o xs old ws s) (branches t o' xs' new ws' s)
     branches_alike t (behind_both y y') s = moves_on s
+    branches_alike t (only_one y z) s = moves_on s
     branches_alike t (at_last [] to) s = moves_on s
     branches_alike t (at_last (y ∷ []) to) s = moves_on s
     branches_alike true (at_last (y ∷ z ∷ []) to) s = alike Going tt s (comes_at E (stands E p) y to.0) w
