@@ -120,7 +120,7 @@ module _ (E : Edit) where
       (acts_alike E E.text E.nodes E.conts E.blocks start nd k x d' E.number b i b' i' e e' us born f p k n.fits w t)))
 
 module _ (E : Edit) (rank : ℕ → ℕ → ℕ) (symbols : List Symbol) (graphs graphs' : List FlowGraph) (lists : Differ E graphs graphs') (Sure : Machine → Machine → Type 0) where
-  abbrev rank_of : Machine → ℕ
+  abbrev pub rank_of : Machine → ℕ
   rank_of m = rank m.here.block m.here.index
 
   abbrev now : (graph block index : ℕ) → Delivered → Vals → ℕ → Force → List Waiting → State → Machine

@@ -7,3 +7,5 @@ pub mod Along
 pub mod Lists
 pub mod Reading
 pub mod AsOne
+pub mod Kept
+pub mod Blocks

@@ -1,1 +1,10 @@
 // Laws of edits of graphs. Each function does nothing: a call of it gives its law.
+
+ghost use Rattle.graph_edits.specs.Laws.{JoinKept, SplitKept};
+
+/// A whole graph whose block is split behind a node, and one of which two blocks are joined, mean
+/// what the graph meant, whatever graphs run around it: each keeps the other's meaning.
+pub fn blocks_kept()
+    ensures split { SplitKept }
+    ensures join { JoinKept }
+{}
