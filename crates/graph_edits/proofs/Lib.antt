@@ -9,3 +9,5 @@ pub mod Reading
 pub mod AsOne
 pub mod Kept
 pub mod Blocks
+pub mod Values
+pub mod Substitution

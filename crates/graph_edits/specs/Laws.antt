@@ -1,12 +1,19 @@
 -- That edits keep the meaning of a graph, as the contracts of this crate state it. (This project's own.)
-use Rattle.std.specs.Prelude.{◌≡◌, ℕ, List, None}
+use Rattle.std.specs.Prelude.{◌≡◌, ℕ, true, List, ◌∷◌, ◌++◌, length, slice_get, Some, None}
+use Rattle.layers.specs.Input.{Input}
+use Rattle.layers.specs.Layer.{after}
 use Rattle.layers.specs.Among.{KeepsAmong}
 use Rattle.core_form.specs.State.{Symbol, Object}
-use Rattle.icr_graph.specs.Plain.{FlowGraph, block_of}
+use Rattle.icr_graph.specs.Lists.{has_number}
+use Rattle.icr_graph.specs.Plain.{FlowGraph, nodes_in, block_of, dest_of}
 use Rattle.icr_graph.specs.Whole.{IsWhole}
-use Rattle.icr_graph.specs.Edits.{joined}
+use Rattle.icr_graph.specs.Edits.{joined, substituted_at}
+use Rattle.icr_graph.specs.Faults.{substitute_fault}
 use Rattle.icr_graph.specs.Splitting.{split_fault, split_behind, join_fault}
-use Rattle.graph_meaning.specs.AsLayer.{graphs_together}
+use Rattle.graph_meaning.specs.Machine.{values_at, Going, Machine}
+use Rattle.graph_meaning.specs.Reading.{assertions_on}
+use Rattle.graph_meaning.specs.Running.{step}
+use Rattle.graph_meaning.specs.AsLayer.{first_machine, graphs_together}
 
 -- in every place among any other graphs, each of the two keeps what the other means
 abbrev pub MeansTheSame : List Object → List Symbol → FlowGraph → FlowGraph → Type 0
@@ -25,3 +32,28 @@ abbrev pub JoinKept : Type 0
 JoinKept =
     (heap : List Object) (symbols : List Symbol) (g : FlowGraph) (first second : ℕ) →
     IsWhole g → join_fault g first second ≡ None → MeansTheSame heap symbols g (joined first second g)
+
+-- ---- a continuation that is taken in the place of another
+
+-- where one of these nodes of the graph of this number comes next, the two continuations hold the same values
+abbrev pub HoldTheSame : FlowGraph → (number : ℕ) → (takers : List ℕ) → (old new : ℕ) → Machine → Type 0
+HoldTheSame g number takers old new m =
+    m.control ≡ Going → m.here.graph ≡ number → (n : ℕ) → slice_get (nodes_in g m.here.block) m.here.index ≡ Some n → has_number n takers ≡ true →
+    values_at m.here.delivered old ≡ values_at m.here.delivered new
+
+-- so it is at each moment of each run, whatever graphs run around this one
+abbrev pub TakesTheSame : List Object → List Symbol → FlowGraph → (takers : List ℕ) → (old new : ℕ) → Type 0
+TakesTheSame heap symbols g takers old new =
+    (prelude : ℕ) (before behind : List FlowGraph) (input : Input) (k : ℕ) →
+    HoldTheSame g (length before) takers old new
+    (after (step symbols (before ++ g ∷ behind)) k (first_machine heap symbols prelude (before ++ g ∷ behind) input.letters))
+
+-- The destination takes the new continuation in the place of the old, of which the same is asserted, and finds the same
+-- values in both whenever it runs, before and after.
+abbrev pub SubstitutionKept : Type 0
+SubstitutionKept =
+    (heap : List Object) (symbols : List Symbol) (g : FlowGraph) (old new : ℕ) →
+    IsWhole g → substitute_fault g old new ≡ None → assertions_on (g.cont old) ≡ assertions_on (g.cont new) →
+    TakesTheSame heap symbols g (dest_of g old) old new →
+    TakesTheSame heap symbols (substituted_at (dest_of g old) old new g) (dest_of g old) old new →
+    MeansTheSame heap symbols g (substituted_at (dest_of g old) old new g)
