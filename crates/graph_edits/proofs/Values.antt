@@ -149,7 +149,7 @@ module _ (old new : ℕ) (d : Delivered) where
   abbrev pub seen_through : Delivered
   seen_through j = d (renumber old new j)
 
-  first_renamed : (ks : List ℕ) → first_values d (renumbered old new ks) ≡ first_values seen_through ks
+  pub first_renamed : (ks : List ℕ) → first_values d (renumbered old new ks) ≡ first_values seen_through ks
   first_renamed [] = refl
   first_renamed (k ∷ ks) = ap (λ (vs : Vals). value_at d (renumber old new k) ∷ vs) (first_renamed ks)
 

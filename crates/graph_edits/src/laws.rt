@@ -1,10 +1,16 @@
 // Laws of edits of graphs. Each function does nothing: a call of it gives its law.
 
-ghost use Rattle.graph_edits.specs.Laws.{JoinKept, SplitKept};
+ghost use Rattle.graph_edits.specs.Laws.{JoinKept, SplitKept, SubstitutionKept};
 
 /// A whole graph whose block is split behind a node, and one of which two blocks are joined, mean
 /// what the graph meant, whatever graphs run around it: each keeps the other's meaning.
 pub fn blocks_kept()
     ensures split { SplitKept }
     ensures join { JoinKept }
+{}
+
+/// A whole graph in which a node takes another continuation means what it meant, if the same is
+/// asserted of both and they hold the same values whenever the node runs, before and after.
+pub fn substitution_kept()
+    ensures { SubstitutionKept }
 {}
