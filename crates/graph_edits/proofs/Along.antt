@@ -47,11 +47,9 @@ pub record NodesAlike (E : Edit) (b i b' i' : ℕ) (d d' : Delivered) (nd : Node
 pub record Lags (E : Edit) (rank : ℕ → ℕ → ℕ) (b i b' i' : ℕ) (d d' : Delivered) : Type 0 where
   pub block : ℕ
   pub index : ℕ
-  pub delivered : Delivered
   pub spot : E.Spot block index b' i'
-  pub held : E.Held delivered d'
   pub moves : (start : ℕ) (us : Vals) (born : ℕ) (f : Force) (ws : List Waiting) (s : State) →
-      runs_at E.text start (node_at E.text b i) (activation_at E.number b i d us born f) ws s ≡ going (activation_at E.number block index delivered us born f) ws s
+      (delivered : Delivered) × E.Held delivered d' × (runs_at E.text start (node_at E.text b i) (activation_at E.number b i d us born f) ws s ≡ going (activation_at E.number block index delivered us born f) ws s)
   pub falls : rank block index < rank b i
 
 pub data Turn (E : Edit) (rank : ℕ → ℕ → ℕ) : (b i b' i' : ℕ) (d d' : Delivered) → Type 0 where
@@ -181,9 +179,10 @@ module _ (E : Edit) (rank : ℕ → ℕ → ℕ) (symbols : List Symbol) (graphs
           (ap (λ (o : Option Node). runs_at (edited E) start o new ws' s) at' ∙ ap (λ (bs : List ℕ). to_next bs new ws' s) (sym follow))
           (next_alike E (blocks_after E.text b) (within us born f spot held) to w s))
     goes_within (lags l) =
-        let moves = step_before ∙ l.moves start us born f ws s in
+        let on = l.moves start us born f ws s in
+        let moves = step_before ∙ on.2 in
         inr (
-          subst (λ (x : Machine). Alike E x (going new ws' s)) (sym moves) (alike Going tt s (within us born f l.spot l.held) w),
+          subst (λ (x : Machine). Alike E x (going new ws' s)) (sym moves) (alike Going tt s (within us born f l.spot on.1) w),
           subst (λ (x : Machine). rank_of x < rank b i) (sym moves) l.falls,
         )
 

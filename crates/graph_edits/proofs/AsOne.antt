@@ -161,12 +161,13 @@ module _ (number : ℕ) (g : FlowGraph) (nodes : ℕ → Option Node) (blocks : 
           lags (record {
             block = second;
             index = 0;
-            delivered = d;
             spot = subst (λ (n : ℕ). Placed first second size second 0 first n) whole (in_second 0);
-            held = e;
-            moves = λ start us born f ws s.
-                ap (λ (o : Option Node). runs_at g start o (activation_at number first i d us born f) ws s) (ap (named g.node) is)
-                ∙ leads_to second (blocks_after g first) one.alone one.leads (activation_at number first i d us born f) ws s;
+            moves = λ start us born f ws s. (
+              d,
+              e,
+              ap (λ (o : Option Node). runs_at g start o (activation_at number first i d us born f) ws s) (ap (named g.node) is)
+              ∙ leads_to second (blocks_after g first) one.alone one.leads (activation_at number first i d us born f) ws s,
+            );
             falls = falls;
           })
       by_case (Some m) is =

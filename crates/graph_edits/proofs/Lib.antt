@@ -11,3 +11,4 @@ pub mod Kept
 pub mod Blocks
 pub mod Values
 pub mod Substitution
+pub mod Retiring

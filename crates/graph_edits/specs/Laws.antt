@@ -3,16 +3,19 @@ use Rattle.std.specs.Prelude.{◌≡◌, ℕ, true, List, ◌∷◌, ◌++◌, l
 use Rattle.layers.specs.Input.{Input}
 use Rattle.layers.specs.Layer.{after}
 use Rattle.layers.specs.Among.{KeepsAmong}
-use Rattle.core_form.specs.State.{Symbol, Object}
+use Rattle.core_form.specs.State.{Symbol, Object, State}
 use Rattle.icr_graph.specs.Lists.{has_number}
+use Rattle.core_form.specs.Force.{Vals}
 use Rattle.icr_graph.specs.Plain.{FlowGraph, nodes_in, block_of, dest_of}
 use Rattle.icr_graph.specs.Whole.{IsWhole}
-use Rattle.icr_graph.specs.Edits.{joined, substituted_at}
-use Rattle.icr_graph.specs.Faults.{substitute_fault}
+use Rattle.icr_graph.specs.declared.nodes.Node.{Node}
+use Rattle.icr_graph.specs.Kinds.{operands_of}
+use Rattle.icr_graph.specs.Edits.{joined, substituted_at, without_node}
+use Rattle.icr_graph.specs.Faults.{substitute_fault, retire_fault}
 use Rattle.icr_graph.specs.Splitting.{split_fault, split_behind, join_fault}
-use Rattle.graph_meaning.specs.Machine.{values_at, Going, Machine}
+use Rattle.graph_meaning.specs.Machine.{values_at, Activation, advanced, holding, taking, Waiting, Going, Machine, going}
 use Rattle.graph_meaning.specs.Reading.{assertions_on}
-use Rattle.graph_meaning.specs.Running.{step}
+use Rattle.graph_meaning.specs.Running.{runs_node, step}
 use Rattle.graph_meaning.specs.AsLayer.{first_machine, graphs_together}
 
 -- in every place among any other graphs, each of the two keeps what the other means
@@ -57,3 +60,18 @@ SubstitutionKept =
     TakesTheSame heap symbols g (dest_of g old) old new →
     TakesTheSame heap symbols (substituted_at (dest_of g old) old new g) (dest_of g old) old new →
     MeansTheSame heap symbols g (substituted_at (dest_of g old) old new g)
+
+-- ---- a node that is retired
+
+-- Wherever the node runs, it takes its operands, gives some values to its continuation, and nothing else happens: it has no
+-- effect, doesn't fail, costs nothing and counts nothing.
+abbrev pub HasNoEffect : FlowGraph → ℕ → Type 0
+HasNoEffect g n =
+    (nd : Node) → g.node n ≡ Some nd → (start : ℕ) (a : Activation) (ws : List Waiting) (s : State) → slice_get (nodes_in g a.block) a.index ≡ Some n →
+    (vs : Vals) × (runs_node g start nd a ws s ≡ going (advanced (holding nd.cont vs (taking (operands_of nd.kind) a))) ws s)
+
+-- such a node, whose values nobody takes, is gone
+abbrev pub RetiringKept : Type 0
+RetiringKept =
+    (heap : List Object) (symbols : List Symbol) (g : FlowGraph) (n : ℕ) →
+    IsWhole g → retire_fault g n ≡ None → HasNoEffect g n → MeansTheSame heap symbols g (without_node n g)
