@@ -77,7 +77,7 @@ pub true_of : (t : Bool) → not t ≡ false → t ≡ true
 true_of true h = refl
 true_of false h = cc
 
-impossible : {A : Type 0} → false ≡ true → A
+pub impossible : {A : Type 0} → false ≡ true → A
 impossible e = cc
 
 -- ---- a join
@@ -169,7 +169,7 @@ up_to_and_behind n (x ∷ xs) = by_case (x == n) (up_to_and_behind n xs)
     by_case true ih = refl
     by_case false ih = ap (λ (ys : List ℕ). x ∷ ys) ih
 
-some_first : (xs : List ℕ) → is_empty xs ≡ false → (y : ℕ) × (slice_get xs 0 ≡ Some y)
+pub some_first : (xs : List ℕ) → is_empty xs ≡ false → (y : ℕ) × (slice_get xs 0 ≡ Some y)
 some_first [] h = cc
 some_first (x ∷ xs) h = (x, refl)
 

@@ -11,4 +11,5 @@ pub mod Kept
 pub mod Blocks
 pub mod Values
 pub mod Substitution
+pub mod Without
 pub mod Retiring
