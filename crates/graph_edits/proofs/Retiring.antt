@@ -8,6 +8,7 @@ use Rattle.layers.specs.Keeping.{Keeps}
 use Rattle.core_form.specs.State.{Symbol, Object, State}
 use Rattle.core_form.specs.Effect.{Ended, Gave, Left, Failed, Effect, ◌>>◌}
 use Rattle.core_form.specs.Force.{Vals, Force}
+use Rattle.core_form.specs.Step.{with_entry as with_entry_in}
 use Rattle.icr_graph.specs.declared.nodes.NodeKind.{NodeKind}
 use Rattle.icr_graph.specs.declared.nodes.NodeKind.TheVariants as kind
 use Rattle.icr_graph.specs.declared.nodes.Operation.TheVariants as operation
@@ -16,6 +17,7 @@ use Rattle.icr_graph.specs.declared.nodes.Extent.TheVariants as extent
 use Rattle.icr_graph.specs.declared.nodes.Leaving.{Leaving as Way}
 use Rattle.icr_graph.specs.declared.nodes.Leaving.TheVariants as way
 use Rattle.icr_graph.specs.declared.nodes.Node.{Node}
+use Rattle.icr_graph.specs.declared.nodes.Tag.{Tag}
 use Rattle.ir_ids.specs.Entries.{with_entry}
 use Rattle.icr_graph.specs.declared.parts.Cont.{Cont}
 use Rattle.icr_graph.specs.declared.parts.Block.{Block}
@@ -29,10 +31,10 @@ use Rattle.icr_graph.proofs.Allowed.{passed}
 use Rattle.icr_graph.proofs.Distinct.{both_hold, not_true, neither}
 use Rattle.icr_graph.proofs.Touched.{without_none}
 use Rattle.icr_graph.proofs.Regrouped.{has_another, has_one}
-use Rattle.graph_meaning.specs.Machine.{Delivered, nothing, without_all, delivered_to, or_no_values, values_at, Activation, Waiting, Control, Going, Leaving, Stopped, Machine, going, after}
+use Rattle.graph_meaning.specs.Machine.{Delivered, nothing, without_all, delivered_to, or_no_values, values_at, Activation, taking, Waiting, Landing, Tagged, Control, Going, Leaving, Stopped, Machine, going, after}
 use Rattle.graph_meaning.specs.Reading.{assertions_on, named, node_at, variable_of_entry, variable_left}
 use Rattle.graph_meaning.specs.Effects.{test_operands, box_before}
-use Rattle.graph_meaning.specs.Extents.{leave_by, leave_extent}
+use Rattle.graph_meaning.specs.Extents.{enter_by, opened, leave_by, leave_extent, spent}
 use Rattle.graph_meaning.specs.Running.{first_values, acts, runs_node, runs_at, force_at_top}
 use Rattle.graph_meaning.specs.AsLayer.{first_state, graphs_together}
 use Rattle.graph_meaning.specs.Laws.{GraphsAreNeverFull}
@@ -78,13 +80,22 @@ then_waits a ws next (Failed x p t) b s never e = other_control (ap (λ (m : Mac
     other_control : Stopped x p ≡ Going → ⊥
     other_control q = cc
 
-named_pushes : (g : FlowGraph) (start : ℕ) (nd : Node) (x land : ℕ) (exits : List ℕ) (a : Activation) (ws : List Waiting) (s : State) (b : Activation) →
-    runs_node g start (record nd { kind = kind.Entry (extent.Named x land) exits }) a ws s ≡ going b ws s → ⊥
-named_pushes g start nd x land exits a ws s b e = then_waits _ ws _ _ b s (λ u t q. more_waits _ ws _ _ b s (λ r v. (_, refl)) q) e
+module _ (g : FlowGraph) (start : ℕ) (nd : Node) (x : ℕ) (exits : List ℕ) (a : Activation) (ws : List Waiting) (s : State) (b : Activation) where
+  named_pushes : (land : ℕ) → runs_node g start (record nd { kind = kind.Entry (extent.Named x land) exits }) a ws s ≡ going b ws s → ⊥
+  named_pushes land e =
+      let k = kind.Entry (extent.Named x land) exits in
+      let v = record nd { kind = k } in
+      let pushed : ℕ → Waiting = λ n. Landing n false (record { block = land; cont = nd.cont; charges = nd.charges }) a.force in
+      then_waits {A = Unit {0}} (taking [] a) ws (λ u. acts g start v a.delivered (taking [] a) ws k) ((box_before k [] >> test_operands g a.force a.delivered []) (spent nd.charges.cost s)) b s
+      (λ u t q. more_waits (taking [] a) ws (λ n. opened (taking [] a) ws (with_entry_in n a.force) (pushed n)) (enter_by (g.variable x) t) b s (λ n r. (pushed n, refl)) q) e
 
-tags_push : (g : FlowGraph) (start : ℕ) (nd : Node) (x : ℕ) (tags : _) (exits : List ℕ) (a : Activation) (ws : List Waiting) (s : State) (b : Activation) →
-    runs_node g start (record nd { kind = kind.Entry (extent.Tags x tags) exits }) a ws s ≡ going b ws s → ⊥
-tags_push g start nd x tags exits a ws s b e = then_waits _ ws _ _ b s (λ u t q. more_waits _ ws _ _ b s (λ r v. (_, refl)) q) e
+  tags_push : (tags : List Tag) → runs_node g start (record nd { kind = kind.Entry (extent.Tags x tags) exits }) a ws s ≡ going b ws s → ⊥
+  tags_push tags e =
+      let k = kind.Entry (extent.Tags x tags) exits in
+      let v = record nd { kind = k } in
+      let pushed : ℕ → Waiting = λ n. Tagged n tags a.force in
+      then_waits {A = Unit {0}} (taking [] a) ws (λ u. acts g start v a.delivered (taking [] a) ws k) ((box_before k [] >> test_operands g a.force a.delivered []) (spent nd.charges.cost s)) b s
+      (λ u t q. more_waits (taking [] a) ws (λ n. opened (taking [] a) ws (with_entry_in n a.force) (pushed n)) (enter_by (g.variable x) t) b s (λ n r. (pushed n, refl)) q) e
 
 -- some activation at a place, and some state
 abbrev some_activation : ℕ → ℕ → Activation
@@ -93,25 +104,25 @@ some_activation b i = activation_at 0 b i nothing [] 0 (force_at_top [] 0)
 abbrev some_state : State
 some_state = first_state [] [] [] []
 
+abbrev of_that_kind : Node → NodeKind → Node
+of_that_kind nd k = record nd { kind = k }
+
 no_extent : (g : FlowGraph) (n : ℕ) (nd : Node) (b i : ℕ) → g.node n ≡ Some nd → slice_get (nodes_in g b) i ≡ Some n → HasNoEffect g n → variable_of_entry (g.node n) ≡ None
 no_extent g n nd b i is got idle = ap variable_of_entry is ∙ by_kind nd.kind refl
   where
-    abbrev of : NodeKind → Node
-    of k = record nd { kind = k }
-
-    by_extent : (x : Extent) (exits : List ℕ) → nd.kind ≡ kind.Entry x exits → variable_of_entry (Some (of (kind.Entry x exits))) ≡ None
+    by_extent : (x : Extent) (exits : List ℕ) → nd.kind ≡ kind.Entry x exits → variable_of_entry (Some (of_that_kind nd (kind.Entry x exits))) ≡ None
     by_extent (extent.Named x land) exits e =
-        let r = idle (of (kind.Entry (extent.Named x land) exits)) (is ∙ ap (λ (k : NodeKind). Some (of k)) e) 0 (some_activation b i) [] some_state got in
-        absurd (named_pushes g 0 nd x land exits (some_activation b i) [] some_state _ r.1)
+        let r = idle (of_that_kind nd (kind.Entry (extent.Named x land) exits)) (is ∙ ap (λ (k : NodeKind). Some (of_that_kind nd k)) e) 0 (some_activation b i) [] some_state got in
+        absurd (named_pushes g 0 nd x exits (some_activation b i) [] some_state _ land r.1)
     by_extent (extent.Tags x tags) exits e =
-        let r = idle (of (kind.Entry (extent.Tags x tags) exits)) (is ∙ ap (λ (k : NodeKind). Some (of k)) e) 0 (some_activation b i) [] some_state got in
-        absurd (tags_push g 0 nd x tags exits (some_activation b i) [] some_state _ r.1)
+        let r = idle (of_that_kind nd (kind.Entry (extent.Tags x tags) exits)) (is ∙ ap (λ (k : NodeKind). Some (of_that_kind nd k)) e) 0 (some_activation b i) [] some_state got in
+        absurd (tags_push g 0 nd x exits (some_activation b i) [] some_state _ tags r.1)
     by_extent (extent.Catching tag land) exits e = refl
     by_extent (extent.Guarded cleanup) exits e = refl
     by_extent (extent.Special s value) exits e = refl
     by_extent (extent.Keep values) exits e = refl
 
-    of_that : (k : NodeKind) → nd.kind ≡ k → variable_of_entry (Some (of k)) ≡ None
+    of_that : (k : NodeKind) → nd.kind ≡ k → variable_of_entry (Some (of_that_kind nd k)) ≡ None
     of_that (kind.Ref l) e = refl
     of_that (kind.Set x value) e = refl
     of_that (kind.If test) e = refl
@@ -123,7 +134,7 @@ no_extent g n nd b i is got idle = ap variable_of_entry is ∙ by_kind nd.kind r
     of_that (kind.Exit w entry) e = refl
 
     by_kind : (k : NodeKind) → nd.kind ≡ k → variable_of_entry (Some nd) ≡ None
-    by_kind k e = ap (λ (x : NodeKind). variable_of_entry (Some (of x))) e ∙ of_that k e
+    by_kind k e = ap (λ (x : NodeKind). variable_of_entry (Some (of_that_kind nd x))) e ∙ of_that k e
 
 -- ---- the places
 
@@ -133,7 +144,7 @@ pub data Closer (at p : ℕ) : (b i b' i' : ℕ) → Type 0 where
   up_to_it : (i : ℕ) → i ≤ p → Closer at p at i at i
   behind_it : (i : ℕ) → p ≤ i → Closer at p at (suc i) at i
 
-begins_closer : (at p b : ℕ) → Closer at p b 0 b 0
+pub begins_closer : (at p b : ℕ) → Closer at p b 0 b 0
 begins_closer at p b = by_case (cases_eq b at)
   where
     by_case : (b ≡ at) ⊎ (b ≢ at) → Closer at p b 0 b 0
@@ -155,7 +166,7 @@ delivered_other (Some k) vs d j h = by_case (cases_eq k j) h
         absurd_of r = cc
     by_case (inr other) q = rw (ne_eqb j k (λ e. other (sym e))) refl
 
-but_delivering : (ks : List ℕ) (o k : Option ℕ) (vs : Vals) (d d' : Delivered) → HeldBut ks o d d' → HeldBut ks o (delivered_to k vs d) (delivered_to k vs d')
+pub but_delivering : (ks : List ℕ) (o k : Option ℕ) (vs : Vals) (d d' : Delivered) → HeldBut ks o d d' → HeldBut ks o (delivered_to k vs d) (delivered_to k vs d')
 but_delivering ks o None vs d d' h = h
 but_delivering ks o (Some k) vs d d' h = record { others = λ j x y. ap (λ (z : Option Vals). if j == k then Some vs else z) (h.others j x y) }
 

@@ -1,6 +1,6 @@
 // Laws of edits of graphs. Each function does nothing: a call of it gives its law.
 
-ghost use Rattle.graph_edits.specs.Laws.{JoinKept, SplitKept, SubstitutionKept};
+ghost use Rattle.graph_edits.specs.Laws.{JoinKept, RetiringKept, SplitKept, SubstitutionKept};
 
 /// A whole graph whose block is split behind a node, and one of which two blocks are joined, mean
 /// what the graph meant, whatever graphs run around it: each keeps the other's meaning.
@@ -13,4 +13,10 @@ pub fn blocks_kept()
 /// asserted of both and they hold the same values whenever the node runs, before and after.
 pub fn substitution_kept()
     ensures { SubstitutionKept }
+{}
+
+/// A whole graph from which a node is retired that has no effect, and whose values nobody takes,
+/// means what it meant.
+pub fn retiring_kept()
+    ensures { RetiringKept }
 {}
