@@ -13,8 +13,8 @@ use Rattle.icr_graph.specs.declared.nodes.Node.{Node}
 use Rattle.icr_graph.specs.declared.parts.Cont.{Cont}
 use Rattle.icr_graph.specs.declared.parts.Block.{Block}
 use Rattle.icr_graph.specs.declared.parts.Variable.{Variable}
-use Rattle.icr_graph.specs.Lists.{has_number, last_alone}
-use Rattle.icr_graph.specs.Kinds.{arrivals_of, is_if}
+use Rattle.icr_graph.specs.Lists.{has_number, listed, last_alone}
+use Rattle.icr_graph.specs.Kinds.{arrivals_of, entry_left, is_if}
 use Rattle.icr_graph.specs.Plain.{FlowGraph, nodes_in, blocks_after}
 use Rattle.graph_meaning.specs.Machine.{Delivered, value_at, Activation, at_block, Waiting, Machine, going}
 use Rattle.graph_meaning.specs.Reading.{assertions_on, named, variable_of_entry, variable_left}
@@ -118,18 +118,23 @@ left_same h ns cs bs kept gone (Some m) = ap (λ (o : Option ℕ). named h.varia
 
 -- ---- what a kind names
 
+pub fits_by : (E : Edit) (h h' : FlowGraph) (c b i b' i' : ℕ) (k : NodeKind) →
+    (is_if k ≡ true → Chooses E c (slice_get (nodes_in h b) (suc i)) (slice_get (nodes_in h' b') (suc i')) (blocks_after h b) (blocks_after h' b')) →
+    AllArrive E c (arrivals_of k) → ((entry : Option ℕ) → listed entry ≡ entry_left k → variable_left h entry ≡ variable_left h' entry) → Fits E h h' c b i b' i' k
+fits_by E h h' c b i b' i' (kind.Ref l) chooses to left = tt
+fits_by E h h' c b i b' i' (kind.Set y value) chooses to left = tt
+fits_by E h h' c b i b' i' (kind.If test) chooses to left = chooses refl
+fits_by E h h' c b i b' i' (kind.Combination op ks) chooses to left = tt
+fits_by E h h' c b i b' i' (kind.MvCombination g ks tail) chooses to left = tt
+fits_by E h h' c b i b' i' (kind.Bind y value) chooses to left = tt
+fits_by E h h' c b i b' i' (kind.Return value) chooses to left = tt
+fits_by E h h' c b i b' i' (kind.Entry y exits) chooses to left = to
+fits_by E h h' c b i b' i' (kind.Exit y entry) chooses to left = left entry refl
+
 pub fits_from : (E : Edit) (h h' : FlowGraph) (c b i b' i' : ℕ) (k : NodeKind) →
     (is_if k ≡ true → Chooses E c (slice_get (nodes_in h b) (suc i)) (slice_get (nodes_in h' b') (suc i')) (blocks_after h b) (blocks_after h' b')) →
     AllArrive E c (arrivals_of k) → ((entry : Option ℕ) → variable_left h entry ≡ variable_left h' entry) → Fits E h h' c b i b' i' k
-fits_from E h h' c b i b' i' (kind.Ref l) chooses to left = tt
-fits_from E h h' c b i b' i' (kind.Set y value) chooses to left = tt
-fits_from E h h' c b i b' i' (kind.If test) chooses to left = chooses refl
-fits_from E h h' c b i b' i' (kind.Combination op ks) chooses to left = tt
-fits_from E h h' c b i b' i' (kind.MvCombination g ks tail) chooses to left = tt
-fits_from E h h' c b i b' i' (kind.Bind y value) chooses to left = tt
-fits_from E h h' c b i b' i' (kind.Return value) chooses to left = tt
-fits_from E h h' c b i b' i' (kind.Entry y exits) chooses to left = to
-fits_from E h h' c b i b' i' (kind.Exit y entry) chooses to left = left entry
+fits_from E h h' c b i b' i' k chooses to left = fits_by E h h' c b i b' i' k chooses to (λ entry e. left entry)
 
 -- an If that stands alike chooses alike
 pub chooses_same : (E : Edit) (c : ℕ) (o : Option ℕ) (bs : List ℕ) → AllArrive E c bs → Chooses E c o o bs bs

@@ -1,22 +1,28 @@
 -- That edits keep the meaning of a graph, as the contracts of this crate state it. (This project's own.)
-use Rattle.std.specs.Prelude.{◌≡◌, ℕ, true, List, ◌∷◌, ◌++◌, length, slice_get, Some, None}
+use Rattle.std.specs.Prelude.{◌≡◌, ◌≢◌, ℕ, true, List, ◌∷◌, ◌++◌, length, slice_get, Some, None}
 use Rattle.layers.specs.Input.{Input}
 use Rattle.layers.specs.Layer.{after}
 use Rattle.layers.specs.Among.{KeepsAmong}
 use Rattle.core_form.specs.State.{Symbol, Object, State}
 use Rattle.icr_graph.specs.Lists.{has_number}
 use Rattle.core_form.specs.Force.{Vals}
-use Rattle.icr_graph.specs.Plain.{FlowGraph, nodes_in, block_of, dest_of}
+use Rattle.icr_graph.specs.Plain.{FlowGraph, nodes_in, block_of, dest_of, entry_left_at}
 use Rattle.icr_graph.specs.Whole.{IsWhole}
 use Rattle.icr_graph.specs.declared.nodes.Node.{Node}
 use Rattle.icr_graph.specs.Kinds.{operands_of}
-use Rattle.icr_graph.specs.Edits.{joined, substituted_at, without_node}
-use Rattle.icr_graph.specs.Faults.{substitute_fault, retire_fault}
+use Rattle.icr_graph.specs.Edits.{joined, substituted_at, without_node, deleted}
+use Rattle.icr_graph.specs.Faults.{substitute_fault, retire_fault, delete_fault}
 use Rattle.icr_graph.specs.Splitting.{split_fault, split_behind, join_fault}
 use Rattle.graph_meaning.specs.Machine.{values_at, Activation, advanced, holding, taking, Waiting, Going, Machine, going}
 use Rattle.graph_meaning.specs.Reading.{assertions_on}
 use Rattle.graph_meaning.specs.Running.{runs_node, step}
 use Rattle.graph_meaning.specs.AsLayer.{first_machine, graphs_together}
+
+-- at each moment of each run of graphs among which this one is, whatever the others are, this holds of its number and the machine
+abbrev pub AtEachMoment : List Object → List Symbol → FlowGraph → (ℕ → Machine → Type 0) → Type 0
+AtEachMoment heap symbols g P =
+    (prelude : ℕ) (before behind : List FlowGraph) (input : Input) (k : ℕ) →
+    P (length before) (after (step symbols (before ++ g ∷ behind)) k (first_machine heap symbols prelude (before ++ g ∷ behind) input.letters))
 
 -- in every place among any other graphs, each of the two keeps what the other means
 abbrev pub MeansTheSame : List Object → List Symbol → FlowGraph → FlowGraph → Type 0
@@ -44,12 +50,9 @@ HoldTheSame g number takers old new m =
     m.control ≡ Going → m.here.graph ≡ number → (n : ℕ) → slice_get (nodes_in g m.here.block) m.here.index ≡ Some n → has_number n takers ≡ true →
     values_at m.here.delivered old ≡ values_at m.here.delivered new
 
--- so it is at each moment of each run, whatever graphs run around this one
+-- so it is at each moment
 abbrev pub TakesTheSame : List Object → List Symbol → FlowGraph → (takers : List ℕ) → (old new : ℕ) → Type 0
-TakesTheSame heap symbols g takers old new =
-    (prelude : ℕ) (before behind : List FlowGraph) (input : Input) (k : ℕ) →
-    HoldTheSame g (length before) takers old new
-    (after (step symbols (before ++ g ∷ behind)) k (first_machine heap symbols prelude (before ++ g ∷ behind) input.letters))
+TakesTheSame heap symbols g takers old new = AtEachMoment heap symbols g (λ number m. HoldTheSame g number takers old new m)
 
 -- The destination takes the new continuation in the place of the old, of which the same is asserted, and finds the same
 -- values in both whenever it runs, before and after.
@@ -75,3 +78,28 @@ abbrev pub RetiringKept : Type 0
 RetiringKept =
     (heap : List Object) (symbols : List Symbol) (g : FlowGraph) (n : ℕ) →
     IsWhole g → retire_fault g n ≡ None → HasNoEffect g n → MeansTheSame heap symbols g (without_node n g)
+
+-- ---- a block that is deleted
+
+-- the run doesn't stand in this block of the graph of this number
+abbrev pub StandsElsewhere : (number block : ℕ) → Machine → Type 0
+StandsElsewhere number b m = m.control ≡ Going → m.here.graph ≡ number → m.here.block ≢ b
+
+-- no run ever stands in a block that may be deleted
+abbrev pub DeletableUnreached : Type 0
+DeletableUnreached =
+    (heap : List Object) (symbols : List Symbol) (g : FlowGraph) (b : ℕ) →
+    IsWhole g → delete_fault g b ≡ None → AtEachMoment heap symbols g (λ number m. StandsElsewhere number b m)
+
+-- where an exit of the graph of this number comes next, it names none of these entries
+abbrev pub LeavesNone : FlowGraph → (number : ℕ) → (entries : List ℕ) → Machine → Type 0
+LeavesNone g number entries m =
+    m.control ≡ Going → m.here.graph ≡ number → (n e : ℕ) → slice_get (nodes_in g m.here.block) m.here.index ≡ Some n →
+    has_number e (entry_left_at g n) ≡ true → has_number e entries ≢ true
+
+-- The block is gone with its nodes. No run comes to an exit that names an entry of the block: it would find no entry afterwards.
+abbrev pub DeletionKept : Type 0
+DeletionKept =
+    (heap : List Object) (symbols : List Symbol) (g : FlowGraph) (b : ℕ) →
+    IsWhole g → delete_fault g b ≡ None → AtEachMoment heap symbols g (λ number m. LeavesNone g number (nodes_in g b) m) →
+    MeansTheSame heap symbols g (deleted b g)
