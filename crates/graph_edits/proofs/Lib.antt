@@ -13,3 +13,4 @@ pub mod Values
 pub mod Substitution
 pub mod Without
 pub mod Retiring
+pub mod Outside
