@@ -14,3 +14,4 @@ pub mod Substitution
 pub mod Without
 pub mod Retiring
 pub mod Outside
+pub mod Deletion

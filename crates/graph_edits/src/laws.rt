@@ -1,6 +1,6 @@
 // Laws of edits of graphs. Each function does nothing: a call of it gives its law.
 
-ghost use Rattle.graph_edits.specs.Laws.{JoinKept, RetiringKept, SplitKept, SubstitutionKept};
+ghost use Rattle.graph_edits.specs.Laws.{DeletableUnreached, DeletionKept, JoinKept, RetiringKept, SplitKept, SubstitutionKept};
 
 /// A whole graph whose block is split behind a node, and one of which two blocks are joined, mean
 /// what the graph meant, whatever graphs run around it: each keeps the other's meaning.
@@ -19,4 +19,12 @@ pub fn substitution_kept()
 /// means what it meant.
 pub fn retiring_kept()
     ensures { RetiringKept }
+{}
+
+/// A whole graph from which a block is deleted means what it meant, if no run comes to an exit that
+/// names an entry of the block: such an exit would find no entry afterwards. No run ever stands in a
+/// block that may be deleted.
+pub fn deletion_kept()
+    ensures unreached { DeletableUnreached }
+    ensures kept { DeletionKept }
 {}

@@ -3,4 +3,4 @@
 
 mod laws;
 
-pub use laws::{blocks_kept, retiring_kept, substitution_kept};
+pub use laws::{blocks_kept, deletion_kept, retiring_kept, substitution_kept};
