@@ -1,5 +1,5 @@
 -- Runs of two lists of graphs that differ in one graph: which machines of the two go along with each other.
-use Rattle.std.proofs.Common.{◌≡◌, ◌≢◌, refl, ℕ, zero, suc, Bool, true, false, if◌then◌else◌, List, [], ◌∷◌, Option, Some, None}
+use Rattle.std.proofs.Common.{◌≡◌, ◌≢◌, refl, ℕ, suc, Bool, true, false, if◌then◌else◌, List, [], ◌∷◌, Option, Some, None}
 use Rattle.lisp_base.specs.declared.values.Val.{Val}
 use Rattle.core_form.specs.State.{State}
 use Rattle.core_form.specs.Effect.{Ended, Gave, Left, Failed}

@@ -1,15 +1,13 @@
 -- Lists of graphs that differ in one graph go along with each other, if the places of the two graphs do.
-use Rattle.std.proofs.Common.{◌≡◌, ◌≢◌, ◌⊎◌, inl, inr, refl, ap, sym, subst, ◌∙◌, ℕ, zero, suc, ◌<◌, Bool, true, false, if◌then◌else◌, ◌==◌, List, [], ◌∷◌, ◌++◌, map, length, take, Option, Some, None}
+use Rattle.std.proofs.Common.{◌≡◌, ◌≢◌, ◌⊎◌, inl, inr, refl, ap, sym, subst, ◌∙◌, ℕ, suc, ◌<◌, ◌==◌, List, [], ◌∷◌, ◌++◌, map, length, take, Option, Some, None}
 use Rattle.std.specs.Prelude.{slice_get}
 use Rattle.std.specs.List.{list_all}
 use Rattle.lisp_base.specs.declared.values.Val.{Val}
 use Rattle.lisp_base.specs.declared.values.SymId.{SymId}
 use Rattle.lisp_base.specs.Sort.{nil}
 use Rattle.layers.specs.Input.{Input}
-use Rattle.layers.specs.Shown.{Seen}
-use Rattle.layers.specs.Layer.{Steps}
 use Rattle.core_form.specs.State.{Symbol, Object, Fun, State}
-use Rattle.core_form.specs.Effect.{Ended, Effect, ◌>>◌}
+use Rattle.core_form.specs.Effect.{Effect, ◌>>◌}
 use Rattle.core_form.specs.Force.{Vals, Force}
 use Rattle.core_form.specs.Run.{Outcome}
 use Rattle.core_form.specs.Eval.{no_counts, constants_from, functions_from}
@@ -17,17 +15,16 @@ use Rattle.core_form.specs.AsLayer.{seen_of}
 use Rattle.icr_graph.specs.declared.nodes.NodeKind.{NodeKind}
 use Rattle.icr_graph.specs.declared.nodes.NodeKind.TheVariants as kind
 use Rattle.icr_graph.specs.declared.nodes.Node.{Node}
-use Rattle.icr_graph.specs.declared.nodes.Tag.{Tag}
-use Rattle.icr_graph.specs.Kinds.{operands_of, arrivals_of, extent_arrivals}
+use Rattle.icr_graph.specs.Kinds.{operands_of, extent_arrivals}
 use Rattle.icr_graph.specs.Plain.{FlowGraph, nodes_in, blocks_after}
-use Rattle.graph_meaning.specs.Machine.{Delivered, without_all, Activation, at_block, taking, Waiting, Control, Going, Calling, Returning, Leaving, Stopped, Next, Over, Machine, going, after}
-use Rattle.graph_meaning.specs.Reading.{node_at, first_function, function_at, prelude_functions, variable_left}
+use Rattle.graph_meaning.specs.Machine.{Delivered, without_all, Activation, taking, Waiting, Control, Going, Calling, Returning, Leaving, Stopped, Next, Over, Machine, going, after}
+use Rattle.graph_meaning.specs.Reading.{node_at, first_function, prelude_functions}
 use Rattle.graph_meaning.specs.Effects.{test_operands, box_before}
 use Rattle.graph_meaning.specs.Extents.{spent}
 use Rattle.graph_meaning.specs.Running.{first_values, acts, runs_node, to_next, runs_at, form_activation, runs_in, step}
-use Rattle.graph_meaning.specs.AsLayer.{outcome_by, outcome_at, first_state, first_machine, graph_steps}
+use Rattle.graph_meaning.specs.AsLayer.{outcome_by, outcome_at, first_machine, graph_steps}
 use Rattle.graph_edits.proofs.Stepping.{GoesAlong}
-use Rattle.graph_edits.proofs.Alike.{Edit, edited, with_others, of_kind, activation_at, Stands, elsewhere, within, Pauses, elsewhere_at, within_at, Arrives, AllArrive, Waits, no_more, same, called, Alike, alike, call, rests, stands, comes_at, after_alike, either_alike}
+use Rattle.graph_edits.proofs.Alike.{Edit, edited, of_kind, activation_at, Stands, elsewhere, within, Pauses, elsewhere_at, within_at, AllArrive, Waits, no_more, same, called, Alike, alike, call, rests, stands, comes_at, after_alike, either_alike}
 use Rattle.graph_edits.proofs.Nodes.{Chooses, behind_both, at_last, Fits, acts_alike}
 use Rattle.graph_edits.proofs.Steps.{Differ, leave_on_alike, enters_alike, returns_alike, form_alike}
 
@@ -175,9 +172,9 @@ module _ (E : Edit) (rank : ℕ → ℕ → ℕ) (symbols : List Symbol) (graphs
         inl (both_go (ap (λ (o : Option Node). runs_at E.text start o old ws s) n.at) (ap (λ (o : Option Node). runs_at (edited E) start o new ws' s) n.at') (node_within E start nd k x spot n us born f w s))
     goes_within (ends at at' spot held follow to) =
         inl (both_go
-          (ap (λ (o : Option Node). runs_at E.text start o old ws s) at)
-          (ap (λ (o : Option Node). runs_at (edited E) start o new ws' s) at' ∙ ap (λ (bs : List ℕ). to_next bs new ws' s) (sym follow))
-          (next_alike E (blocks_after E.text b) (within us born f spot held) to w s))
+        (ap (λ (o : Option Node). runs_at E.text start o old ws s) at)
+        (ap (λ (o : Option Node). runs_at (edited E) start o new ws' s) at' ∙ ap (λ (bs : List ℕ). to_next bs new ws' s) (sym follow))
+        (next_alike E (blocks_after E.text b) (within us born f spot held) to w s))
     goes_within (lags l) =
         let on = l.moves start us born f ws s in
         let moves = step_before ∙ on.2 in

@@ -1,26 +1,23 @@
 -- Two blocks of a graph stand in another as one block: the graphs mean the same.
-use Rattle.std.proofs.Common.{◌≡◌, ◌≢◌, ◌⊎◌, inl, inr, refl, ap, sym, subst, ◌∙◌, ℕ, zero, suc, ◌+◌, ◌<◌, ◌≤◌, arith, Bool, true, false, ◌==◌, if◌then◌else◌, eq-eqb, ne_eqb, List, [], ◌∷◌, ◌++◌, length, Option, Some, None}
+use Rattle.std.proofs.Common.{◌≡◌, ◌≢◌, ◌⊎◌, inl, inr, refl, ap, sym, subst, ◌∙◌, ℕ, suc, ◌+◌, ◌<◌, ◌≤◌, arith, true, false, ◌==◌, if◌then◌else◌, eq-eqb, ne_eqb, List, [], ◌∷◌, ◌++◌, length, Option, Some, None}
 use Rattle.std.specs.Prelude.{slice_get}
 use Rattle.std.specs.List.{list_all}
 use Rattle.std.proofs.lemmas.Bool.{cases_eq}
-use Rattle.core_form.specs.State.{Symbol, State}
 use Rattle.core_form.specs.Effect.{Effect, ◌>>◌}
-use Rattle.core_form.specs.Force.{Vals, Force}
-use Rattle.icr_graph.specs.declared.nodes.NodeKind.{NodeKind}
 use Rattle.icr_graph.specs.declared.nodes.Node.{Node}
 use Rattle.icr_graph.specs.declared.parts.Block.{Block}
 use Rattle.icr_graph.specs.declared.parts.Function.{Function}
 use Rattle.icr_graph.specs.Lists.{has_number}
 use Rattle.icr_graph.specs.Kinds.{operands_of, arrivals_of, is_if}
 use Rattle.icr_graph.specs.Plain.{FlowGraph, nodes_in, blocks_after}
-use Rattle.graph_meaning.specs.Machine.{Delivered, without_all, delivered_to, Activation, Waiting, Machine, going}
-use Rattle.graph_meaning.specs.Reading.{named, node_at}
+use Rattle.graph_meaning.specs.Machine.{Delivered, without_all, delivered_to}
+use Rattle.graph_meaning.specs.Reading.{named}
 use Rattle.graph_meaning.specs.Effects.{test_operands, box_before}
-use Rattle.graph_meaning.specs.Running.{first_values, acts, runs_at, to_next}
-use Rattle.graph_edits.proofs.Alike.{Edit, edited, with_others, of_kind, activation_at, AllArrive}
+use Rattle.graph_meaning.specs.Running.{first_values, acts, runs_at}
+use Rattle.graph_edits.proofs.Alike.{Edit, with_others, of_kind, activation_at, AllArrive}
 use Rattle.graph_edits.proofs.Nodes.{Chooses, behind_both, only_one}
 use Rattle.graph_edits.proofs.Steps.{got_has}
-use Rattle.graph_edits.proofs.Along.{NodesAlike, Lags, Turn, runs, ends, lags}
+use Rattle.graph_edits.proofs.Along.{Turn, runs, ends, lags}
 use Rattle.graph_edits.proofs.Reading.{got_front, got_back, got_none, got_some, apart_first, apart_rest, apart_from_all, leads_to, tests_same, left_same, fits_from, chooses_same}
 
 -- The graph with these nodes and blocks has the second block of the graph behind the nodes of the first.
@@ -166,7 +163,7 @@ module _ (number : ℕ) (g : FlowGraph) (nodes : ℕ → Option Node) (blocks : 
               d,
               e,
               ap (λ (o : Option Node). runs_at g start o (activation_at number first i d us born f) ws s) (ap (named g.node) is)
-              ∙ leads_to second (blocks_after g first) one.alone one.leads (activation_at number first i d us born f) ws s,
+                  ∙ leads_to second (blocks_after g first) one.alone one.leads (activation_at number first i d us born f) ws s,
             );
             falls = falls;
           })

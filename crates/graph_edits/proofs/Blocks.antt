@@ -1,7 +1,7 @@
 -- A split and a join keep the meaning of a graph.
-use Rattle.std.proofs.Common.{◌≡◌, ◌≢◌, ◌⊎◌, inl, inr, refl, ap, sym, subst, ◌∙◌, ℕ, zero, suc, Bool, true, false, not, ◌&&◌, ◌||◌, ◌==◌, if◌then◌else◌, eq-eqb, ne_eqb, List, [], ◌∷◌, ◌++◌, length, Option, Some, None, option_map, is_some}
+use Rattle.std.proofs.Common.{◌≡◌, ◌≢◌, refl, ap, sym, subst, ◌∙◌, ℕ, suc, Bool, true, false, not, ◌&&◌, ◌||◌, ◌==◌, if◌then◌else◌, ne_eqb, List, [], ◌∷◌, ◌++◌, length, Option, Some, None, option_map, is_some}
 use Rattle.std.specs.Prelude.{slice_get}
-use Rattle.std.specs.List.{list_any, list_all}
+use Rattle.std.specs.List.{list_all}
 use Rattle.std.proofs.lemmas.Option.{same_Some}
 use Rattle.layers.specs.Keeping.{Keeps}
 use Rattle.core_form.specs.State.{Symbol, Object}
@@ -10,18 +10,17 @@ use Rattle.icr_graph.specs.declared.parts.Block.{Block}
 use Rattle.icr_graph.specs.declared.parts.Function.{Function}
 use Rattle.icr_graph.specs.Lists.{has_number, numbers_of, listed, behind, up_to}
 use Rattle.icr_graph.specs.Kinds.{arrivals_of, is_if}
-use Rattle.icr_graph.specs.Plain.{FlowGraph, nodes_in, blocks_before, blocks_after, arriving_at, entered_by, entries_of, arrivals_at, block_of}
+use Rattle.icr_graph.specs.Plain.{FlowGraph, nodes_in, blocks_after, arriving_at, entered_by, block_of}
 use Rattle.icr_graph.specs.Whole.{IsWhole}
 use Rattle.icr_graph.specs.Edits.{split, joined, behind_block, in_block, ending_at, going_on}
-use Rattle.icr_graph.specs.Faults.{is_block, is_node, is_edge, is_entered, is_empty, is_last_in}
-use Rattle.icr_graph.specs.Splitting.{split_fault, split_behind, have_other, ends_with_if, is_if_node, are_not_alone, join_fault}
+use Rattle.icr_graph.specs.Faults.{is_block, is_node, is_edge, is_empty, is_last_in}
+use Rattle.icr_graph.specs.Splitting.{split_behind, have_other, ends_with_if, is_if_node, are_not_alone, join_fault}
 use Rattle.icr_graph.proofs.Maps.{same_number}
-use Rattle.icr_graph.proofs.Allowed.{passed, both_true}
+use Rattle.icr_graph.proofs.Allowed.{passed}
 use Rattle.icr_graph.proofs.Distinct.{neither}
 use Rattle.icr_graph.proofs.Regrouped.{has_one, has_another}
 use Rattle.icr_graph.proofs.Splits.{split_whole, placed_live}
 use Rattle.icr_graph.proofs.Joins.{AreJoinable, join_allowed}
-use Rattle.graph_meaning.specs.Machine.{Machine}
 use Rattle.graph_meaning.specs.AsLayer.{graphs_together}
 use Rattle.graph_meaning.specs.Laws.{GraphsAreNeverFull}
 use Rattle.graph_edits.specs.Laws.{MeansTheSame, SplitKept, JoinKept}

@@ -1,10 +1,8 @@
 -- A block that may be deleted is never reached, and its deletion keeps the meaning of a graph.
-use Rattle.std.proofs.Common.{◌≡◌, ◌≢◌, ◌⊎◌, inl, inr, refl, ap, sym, subst, ◌∙◌, ℕ, zero, suc, Bool, true, false, not, ◌||◌, ◌&&◌, ◌==◌, if◌then◌else◌, eq-eqb, ne_eqb, List, [], ◌∷◌, ◌++◌, length, Option, Some, None, option_map}
+use Rattle.std.proofs.Common.{◌≡◌, ◌≢◌, ◌⊎◌, inl, inr, refl, ap, sym, subst, ◌∙◌, ℕ, Bool, true, false, ◌||◌, ◌==◌, if◌then◌else◌, eq-eqb, ne_eqb, List, [], ◌∷◌, ◌++◌, length, Option, Some, None, option_map}
 use Rattle.std.specs.Prelude.{slice_get}
 use Rattle.std.proofs.lemmas.Bool.{cases_eq}
 use Rattle.layers.specs.Keeping.{Keeps}
-use Rattle.layers.specs.Input.{Input}
-use Rattle.layers.specs.Layer.{after as steps_after}
 use Rattle.core_form.specs.State.{Symbol, Object, State}
 use Rattle.core_form.specs.Force.{Vals}
 use Rattle.ir_ids.specs.Entries.{with_entry}
@@ -16,20 +14,19 @@ use Rattle.icr_graph.specs.declared.parts.Cont.{Cont}
 use Rattle.icr_graph.specs.declared.parts.Block.{Block}
 use Rattle.icr_graph.specs.Lists.{has_number, without, other_than, listed, numbers_of, each}
 use Rattle.icr_graph.specs.Kinds.{operands_of, arrivals_of, entry_left, apart_from}
-use Rattle.icr_graph.specs.Plain.{FlowGraph, nodes_in, blocks_after, block_of, entry_left_at}
+use Rattle.icr_graph.specs.Plain.{FlowGraph, nodes_in, blocks_after, entry_left_at}
 use Rattle.icr_graph.specs.Whole.{IsWhole}
 use Rattle.icr_graph.specs.Edits.{alone, not_taken_by, not_used_by, not_holding, no_arrival_of, without_node, without_nodes, not_beside, without_block, deleted}
-use Rattle.icr_graph.specs.Faults.{delete_fault}
 use Rattle.icr_graph.proofs.Touched.{without_none, other_than_none}
 use Rattle.icr_graph.proofs.Regrouped.{one_block}
-use Rattle.graph_meaning.specs.Machine.{Delivered, Activation, Waiting, Going, Machine}
+use Rattle.graph_meaning.specs.Machine.{Delivered, Activation, Waiting, Machine}
 use Rattle.graph_meaning.specs.Reading.{assertions_on, named, variable_of_entry, variable_left}
 use Rattle.graph_meaning.specs.Effects.{box_before}
-use Rattle.graph_meaning.specs.Running.{acts, step}
-use Rattle.graph_meaning.specs.AsLayer.{first_machine, graphs_together}
+use Rattle.graph_meaning.specs.Running.{acts}
+use Rattle.graph_meaning.specs.AsLayer.{graphs_together}
 use Rattle.graph_meaning.specs.Laws.{GraphsAreNeverFull}
-use Rattle.graph_edits.specs.Laws.{AtEachMoment, MeansTheSame, StandsElsewhere, DeletableUnreached, LeavesNone, DeletionKept}
-use Rattle.graph_edits.proofs.Alike.{with_others, of_kind}
+use Rattle.graph_edits.specs.Laws.{AtEachMoment, MeansTheSame, DeletableUnreached, LeavesNone, DeletionKept}
+use Rattle.graph_edits.proofs.Alike.{with_others}
 use Rattle.graph_edits.proofs.Steps.{got_has}
 use Rattle.graph_edits.proofs.Along.{Turn}
 use Rattle.graph_edits.proofs.Without.{same_operands, same_boxes, same_extent}
@@ -60,12 +57,12 @@ pub unreached_same : GraphsAreNeverFull → DeletableUnreached
 unreached_same free heap symbols g b w h prelude before behind input k =
     let off = cut_off g b w h in
     let al = each_alike free heap symbols (around (length before) g b w off g.node g.cont g.block) (no_rank (length before) g b w off g.node g.cont g.block) prelude before behind refl (λ m m'. Unit {0})
-      (record {
-        turn = λ us born f ws ws' s sure spot held. itself_turn free heap symbols g b w off (length before) spot held;
-        both_sure = λ m m' u. tt;
-        one_sure = λ m m' u. tt;
-      })
-      (λ i. tt) 0 0 input k in
+    (record {
+      turn = λ us born f ws ws' s sure spot held. itself_turn free heap symbols g b w off (length before) spot held;
+      both_sure = λ m m' u. tt;
+      one_sure = λ m m' u. tt;
+    })
+    (λ i. tt) 0 0 input k in
     away (length before) g b w off g.node g.cont g.block al.1
 
 -- ---- kinds without partners

@@ -1,5 +1,5 @@
 -- Graphs of which the places go along with each other mean the same, whatever graphs run around them.
-use Rattle.std.proofs.Common.{◌≡◌, ℕ, List, [], ◌∷◌, ◌++◌, length}
+use Rattle.std.proofs.Common.{◌≡◌, ℕ, List, ◌∷◌, ◌++◌, length}
 use Rattle.layers.specs.Input.{Input}
 use Rattle.layers.specs.Layer.{after as steps_after}
 use Rattle.layers.specs.Keeping.{Keeps}

@@ -1,12 +1,11 @@
 -- A node does in the edited graph what it did before.
-use Rattle.std.proofs.Common.{◌≡◌, ◌≢◌, refl, sym, subst, ℕ, zero, suc, ◌+◌, Bool, true, false, if◌then◌else◌, List, [], ◌∷◌, ◌++◌, length, map, drop, Option, Some, None}
+use Rattle.std.proofs.Common.{◌≡◌, refl, subst, ℕ, suc, ◌+◌, Bool, true, false, List, [], ◌∷◌, length, map, Option, Some, None}
 use Rattle.std.specs.Prelude.{slice_get}
 use Rattle.lisp_base.specs.declared.values.Val.{Val}
 use Rattle.lisp_base.specs.declared.values.Val.TheVariants.{Sym}
-use Rattle.lisp_base.specs.declared.values.Place.{Place}
 use Rattle.lisp_base.specs.Sort.{nil}
 use Rattle.core_form.specs.State.{Object, Pair, Vector, Str, Fun, Cell, State, first_of_values}
-use Rattle.core_form.specs.Effect.{Effect, ◌>>=◌, ◌>>◌, pure, new_entry, stack_at, hold, box_all}
+use Rattle.core_form.specs.Effect.{Effect, ◌>>=◌, ◌>>◌, pure, new_entry, stack_at, hold}
 use Rattle.core_form.specs.Force.{Vals, Force, is_true, deeper, object_at, one}
 use Rattle.core_form.specs.Primitives.{give, global_function}
 use Rattle.core_form.specs.Step.{with_catch, designated, not_too_many, spread, throw}
@@ -24,14 +23,14 @@ use Rattle.icr_graph.specs.declared.nodes.Leaving.TheVariants as way
 use Rattle.icr_graph.specs.declared.nodes.Tag.{Tag}
 use Rattle.icr_graph.specs.declared.parts.Cont.{Cont}
 use Rattle.icr_graph.specs.declared.parts.Block.{Block}
-use Rattle.icr_graph.specs.Kinds.{operands_of, extent_arrivals}
+use Rattle.icr_graph.specs.Kinds.{extent_arrivals}
 use Rattle.icr_graph.specs.Plain.{FlowGraph, nodes_in, blocks_after}
-use Rattle.graph_meaning.specs.Machine.{Delivered, without_all, values_at, value_at, Activation, advanced, at_block, with_force, holding, taking, Waiting, Caller, Landing, Tagged, Guarding, Binding, Keeping, Giving, Going_on, Control, Going, Calling, Returning, Leaving, Machine, going, after}
+use Rattle.graph_meaning.specs.Machine.{Delivered, values_at, value_at, Activation, advanced, with_force, Waiting, Caller, Landing, Tagged, Guarding, Binding, Keeping, Giving, Going_on, Going, Calling, Returning, Leaving, going}
 use Rattle.graph_meaning.specs.Reading.{lambda_of, variable_left}
-use Rattle.graph_meaning.specs.Effects.{delivered_by, test_operands, bind, assign, on_variable, leaf_values, box_before, operate}
-use Rattle.graph_meaning.specs.Extents.{enter_by, rebind, open_extent, close, clean_up, guard, give_kept, resume, release, take_one, leave_extent, leave_by, spent}
-use Rattle.graph_meaning.specs.Running.{gives, branches, first_values, all_values, calls_object, calls, calls_known, others, closed_at, operates, combines, acts, runs_node}
-use Rattle.graph_edits.proofs.Alike.{Edit, with_others, of_kind, activation_at, Stands, elsewhere, within, Pauses, elsewhere_at, within_at, Arrives, AllArrive, TagsArrive, Waits, no_more, same, called, Alike, alike, call, stands, goes_on, next_to, forced, stands_forced, comes_at, after_alike}
+use Rattle.graph_meaning.specs.Effects.{delivered_by, bind, assign, on_variable, leaf_values, operate}
+use Rattle.graph_meaning.specs.Extents.{enter_by, rebind, open_extent, close, guard, give_kept, resume, release, take_one, leave_extent, leave_by}
+use Rattle.graph_meaning.specs.Running.{gives, branches, first_values, all_values, calls_object, calls, calls_known, others, closed_at, operates, combines, acts}
+use Rattle.graph_edits.proofs.Alike.{Edit, with_others, of_kind, activation_at, Pauses, AllArrive, TagsArrive, Waits, no_more, same, called, Alike, alike, call, stands, goes_on, next_to, forced, stands_forced, comes_at, after_alike}
 
 -- ---- where an If goes
 

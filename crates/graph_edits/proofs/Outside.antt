@@ -1,11 +1,11 @@
 -- A run never comes to a block that nothing leads to: graphs that are alike outside it go along.
-use Rattle.std.proofs.Common.{◌≡◌, ◌≢◌, ◌⊎◌, inl, inr, refl, ap, sym, subst, ◌∙◌, ℕ, zero, suc, Bool, true, false, not, ◌||◌, ◌==◌, if◌then◌else◌, eq-eqb, ne_eqb, List, [], ◌∷◌, ◌++◌, map, map-id, length, Option, Some, None, is_some}
+use Rattle.std.proofs.Common.{◌≡◌, ◌≢◌, ◌⊎◌, inl, inr, refl, ap, sym, subst, ◌∙◌, ℕ, suc, true, false, not, ◌||◌, ◌==◌, eq-eqb, ne_eqb, List, [], ◌∷◌, map-id, Option, Some, None}
 use Rattle.std.specs.Prelude.{slice_get}
 use Rattle.std.specs.List.{list_any}
 use Rattle.std.proofs.lemmas.Bool.{cases_eq}
 use Rattle.core_form.specs.State.{State}
 use Rattle.core_form.specs.Effect.{Effect, ◌>>◌}
-use Rattle.core_form.specs.Force.{Vals, Force}
+use Rattle.core_form.specs.Force.{Vals}
 use Rattle.icr_graph.specs.declared.nodes.NodeKind.{NodeKind}
 use Rattle.icr_graph.specs.declared.nodes.Node.{Node}
 use Rattle.icr_graph.specs.declared.parts.Cont.{Cont}
@@ -18,17 +18,16 @@ use Rattle.icr_graph.specs.Whole.{IsWhole}
 use Rattle.icr_graph.specs.Faults.{is_block, is_entered, is_empty, has_other_before, delete_fault}
 use Rattle.icr_graph.proofs.Allowed.{passed}
 use Rattle.icr_graph.proofs.Distinct.{neither}
-use Rattle.graph_meaning.specs.Machine.{Delivered, without_all, delivered_to, Activation, Waiting, Control, Going, Calling, Returning, Leaving, Stopped, Next, Over, Machine}
-use Rattle.graph_meaning.specs.Reading.{assertions_on, named, node_at, variable_left}
+use Rattle.graph_meaning.specs.Machine.{Delivered, without_all, delivered_to, Activation, Waiting, Going, Machine}
+use Rattle.graph_meaning.specs.Reading.{assertions_on, named, variable_left}
 use Rattle.graph_meaning.specs.Effects.{test_operands, box_before}
 use Rattle.graph_meaning.specs.Running.{first_values, acts}
-use Rattle.graph_edits.proofs.Alike.{Edit, edited, with_others, of_kind, AllArrive, Stands, elsewhere, within, Rests, Alike, alike, call, rests}
-use Rattle.graph_edits.proofs.Steps.{got_has}
+use Rattle.graph_edits.proofs.Alike.{Edit, with_others, of_kind, AllArrive, elsewhere, within, Rests, Alike, alike, call, rests}
 use Rattle.graph_edits.proofs.Nodes.{Chooses}
 use Rattle.graph_edits.proofs.Along.{Turn, runs, ends}
 use Rattle.graph_edits.proofs.Reading.{apart_first, apart_rest, apart_from_all, fits_by, chooses_same}
 use Rattle.graph_edits.proofs.Values.{tests_pass}
-use Rattle.graph_edits.proofs.Blocks.{node_live, none_entered, none_arrives}
+use Rattle.graph_edits.proofs.Blocks.{none_entered, none_arrives}
 
 -- the same place, in another block
 pub data Outside (b : ℕ) : (c i c' i' : ℕ) → Type 0 where

@@ -1,22 +1,21 @@
 -- What is read alike of a graph and of the edited one: elements of lists, tests, and the variables of extents.
-use Rattle.std.proofs.Common.{◌≡◌, ◌≢◌, refl, ap, sym, subst, ◌∙◌, ℕ, zero, suc, ◌+◌, ◌-◌, ◌<◌, ◌≤◌, arith, Bool, true, false, ◌||◌, ◌&&◌, ◌==◌, if◌then◌else◌, eq-eqb, ne_eqb, List, [], ◌∷◌, ◌++◌, drop, length, Option, Some, None}
+use Rattle.std.proofs.Common.{◌≡◌, ◌≢◌, refl, ap, sym, subst, ◌∙◌, ℕ, zero, suc, ◌+◌, ◌-◌, ◌<◌, ◌≤◌, arith, Bool, true, false, ◌||◌, ◌&&◌, ◌==◌, eq-eqb, List, [], ◌∷◌, ◌++◌, drop, length, Option, Some, None}
 use Rattle.std.specs.Prelude.{slice_get}
 use Rattle.std.specs.List.{list_any, list_all}
 use Rattle.std.proofs.lemmas.Bool.{eqb-true}
 use Rattle.std.proofs.lemmas.Option.{same_Some}
 use Rattle.core_form.specs.State.{State}
-use Rattle.core_form.specs.Effect.{Effect, ◌>>=◌, ◌>>◌}
+use Rattle.core_form.specs.Effect.{Effect, ◌>>◌}
 use Rattle.core_form.specs.Force.{Force}
 use Rattle.icr_graph.specs.declared.nodes.NodeKind.{NodeKind}
 use Rattle.icr_graph.specs.declared.nodes.NodeKind.TheVariants as kind
 use Rattle.icr_graph.specs.declared.nodes.Node.{Node}
 use Rattle.icr_graph.specs.declared.parts.Cont.{Cont}
 use Rattle.icr_graph.specs.declared.parts.Block.{Block}
-use Rattle.icr_graph.specs.declared.parts.Variable.{Variable}
 use Rattle.icr_graph.specs.Lists.{has_number, listed, last_alone}
 use Rattle.icr_graph.specs.Kinds.{arrivals_of, entry_left, is_if}
 use Rattle.icr_graph.specs.Plain.{FlowGraph, nodes_in, blocks_after}
-use Rattle.graph_meaning.specs.Machine.{Delivered, value_at, Activation, at_block, Waiting, Machine, going}
+use Rattle.graph_meaning.specs.Machine.{Delivered, value_at, Activation, at_block, Waiting, going}
 use Rattle.graph_meaning.specs.Reading.{assertions_on, named, variable_of_entry, variable_left}
 use Rattle.graph_meaning.specs.Effects.{test_all, test_operands}
 use Rattle.graph_meaning.specs.Running.{to_next}

@@ -1,45 +1,40 @@
 -- A node that has no effect, and whose values nobody takes, is gone: the meaning is kept.
-use Rattle.std.proofs.Common.{◌≡◌, ◌≢◌, ◌⊎◌, inl, inr, refl, ap, sym, subst, ◌∙◌, ℕ, zero, suc, ◌+◌, ◌-◌, ◌<◌, ◌≤◌, arith, Bool, true, false, not, ◌&&◌, ◌||◌, ◌==◌, if◌then◌else◌, eq-eqb, ne_eqb, List, [], ◌∷◌, ◌++◌, map, map-id, length, Option, Some, None, option_map, is_some}
+use Rattle.std.proofs.Common.{◌≡◌, ◌≢◌, ◌⊎◌, inl, inr, refl, ap, sym, subst, ◌∙◌, ℕ, suc, ◌-◌, ◌<◌, ◌≤◌, arith, Bool, true, false, not, ◌||◌, ◌==◌, if◌then◌else◌, eq-eqb, ne_eqb, List, [], ◌∷◌, ◌++◌, map-id, length, Option, Some, None, option_map, is_some}
 use Rattle.std.specs.Prelude.{slice_get}
-use Rattle.std.specs.List.{list_any}
 use Rattle.std.proofs.lemmas.Bool.{cases_eq, cases_lt, eqb-true}
-use Rattle.std.proofs.lemmas.Option.{same_Some}
 use Rattle.layers.specs.Keeping.{Keeps}
 use Rattle.core_form.specs.State.{Symbol, Object, State}
 use Rattle.core_form.specs.Effect.{Ended, Gave, Left, Failed, Effect, ◌>>◌}
-use Rattle.core_form.specs.Force.{Vals, Force}
+use Rattle.core_form.specs.Force.{Vals}
 use Rattle.core_form.specs.Step.{with_entry as with_entry_in}
 use Rattle.icr_graph.specs.declared.nodes.NodeKind.{NodeKind}
 use Rattle.icr_graph.specs.declared.nodes.NodeKind.TheVariants as kind
-use Rattle.icr_graph.specs.declared.nodes.Operation.TheVariants as operation
 use Rattle.icr_graph.specs.declared.nodes.Extent.{Extent}
 use Rattle.icr_graph.specs.declared.nodes.Extent.TheVariants as extent
-use Rattle.icr_graph.specs.declared.nodes.Leaving.{Leaving as Way}
-use Rattle.icr_graph.specs.declared.nodes.Leaving.TheVariants as way
 use Rattle.icr_graph.specs.declared.nodes.Node.{Node}
 use Rattle.icr_graph.specs.declared.nodes.Tag.{Tag}
 use Rattle.ir_ids.specs.Entries.{with_entry}
 use Rattle.icr_graph.specs.declared.parts.Cont.{Cont}
 use Rattle.icr_graph.specs.declared.parts.Block.{Block}
 use Rattle.icr_graph.specs.Lists.{has_number, are_distinct, without, other_than, numbers_of, listed, each, behind}
-use Rattle.icr_graph.specs.Kinds.{operands_of, arrivals_of, apart_from, is_if}
-use Rattle.icr_graph.specs.Plain.{FlowGraph, nodes_in, blocks_after, block_of, cont_of, operands_at, dest_of}
+use Rattle.icr_graph.specs.Kinds.{operands_of, arrivals_of, apart_from}
+use Rattle.icr_graph.specs.Plain.{FlowGraph, nodes_in, blocks_after, block_of, cont_of, dest_of}
 use Rattle.icr_graph.specs.Whole.{IsWhole}
 use Rattle.icr_graph.specs.Edits.{alone, not_taken_by, not_used_by, not_holding, no_arrival_of, without_node}
-use Rattle.icr_graph.specs.Faults.{is_empty, is_node, are_taken, is_last_in, retire_fault}
+use Rattle.icr_graph.specs.Faults.{is_empty, is_node, are_taken, is_last_in}
 use Rattle.icr_graph.proofs.Allowed.{passed}
-use Rattle.icr_graph.proofs.Distinct.{both_hold, not_true, neither}
+use Rattle.icr_graph.proofs.Distinct.{neither}
 use Rattle.icr_graph.proofs.Touched.{without_none}
 use Rattle.icr_graph.proofs.Regrouped.{has_another, has_one}
-use Rattle.graph_meaning.specs.Machine.{Delivered, nothing, without_all, delivered_to, or_no_values, values_at, Activation, taking, Waiting, Landing, Tagged, Control, Going, Leaving, Stopped, Machine, going, after}
-use Rattle.graph_meaning.specs.Reading.{assertions_on, named, node_at, variable_of_entry, variable_left}
+use Rattle.graph_meaning.specs.Machine.{Delivered, nothing, without_all, delivered_to, or_no_values, Activation, taking, Waiting, Landing, Tagged, Going, Leaving, Stopped, Machine, going, after}
+use Rattle.graph_meaning.specs.Reading.{assertions_on, named, variable_of_entry, variable_left}
 use Rattle.graph_meaning.specs.Effects.{test_operands, box_before}
-use Rattle.graph_meaning.specs.Extents.{enter_by, opened, leave_by, leave_extent, spent}
+use Rattle.graph_meaning.specs.Extents.{enter_by, opened, spent}
 use Rattle.graph_meaning.specs.Running.{first_values, acts, runs_node, runs_at, force_at_top}
 use Rattle.graph_meaning.specs.AsLayer.{first_state, graphs_together}
 use Rattle.graph_meaning.specs.Laws.{GraphsAreNeverFull}
 use Rattle.graph_edits.specs.Laws.{MeansTheSame, HasNoEffect, RetiringKept}
-use Rattle.graph_edits.proofs.Alike.{Edit, edited, with_others, of_kind, activation_at, AllArrive}
+use Rattle.graph_edits.proofs.Alike.{Edit, with_others, activation_at, AllArrive}
 use Rattle.graph_edits.proofs.Steps.{got_has}
 use Rattle.graph_edits.proofs.Nodes.{Chooses, behind_both}
 use Rattle.graph_edits.proofs.Along.{Turn, runs, ends, lags}
@@ -188,7 +183,7 @@ one_alone (Some k) m n h other = by_case (cases_eq k n) h
     by_case (inr is_not) q = rw (ne_eqb k n is_not) refl
 
 module _ (number : ℕ) (g : FlowGraph) (n : ℕ) (nd : Node) (p : ℕ) (w : IsWhole g) (is : g.node n ≡ Some nd) (got : slice_get (nodes_in g nd.block) p ≡ Some n)
-  (unused : (k : ℕ) → has_number k (listed nd.cont) ≡ true → dest_of g k ≡ []) (y : ℕ) (more : slice_get (nodes_in g nd.block) (suc p) ≡ Some y) (idle : HasNoEffect g n) where
+    (unused : (k : ℕ) → has_number k (listed nd.cont) ≡ true → dest_of g k ≡ []) (y : ℕ) (more : slice_get (nodes_in g nd.block) (suc p) ≡ Some y) (idle : HasNoEffect g n) where
   abbrev at : ℕ
   at = nd.block
 
@@ -407,8 +402,7 @@ module _ (number : ℕ) (g : FlowGraph) (n : ℕ) (nd : Node) (p : ℕ) (w : IsW
     index = suc p;
     spot = behind_it p (omega arith);
     moves = λ start us born f ws s.
-        let r = idle nd is start (activation_at number at p d us born f) ws s got in
-        (
+        let r = idle nd is start (activation_at number at p d us born f) ws s got in (
           delivered_to nd.cont r.0 (without_all ops d),
           record { others = λ j x z. delivered_other nd.cont r.0 (without_all ops d) j z ∙ (left_over ops d j ∙ (ap (λ (t : Bool). if t then None else d j) x ∙ h.others j x z)) },
           ap (λ (o : Option Node). runs_at g start o (activation_at number at p d us born f) ws s) (ap (named g.node) got ∙ is) ∙ r.1,
@@ -441,7 +435,7 @@ module _ (number : ℕ) (g : FlowGraph) (n : ℕ) (nd : Node) (p : ℕ) (w : IsW
   retiring_turn (behind_it i le) h = back_turn i le h
 
 module _ (free : GraphsAreNeverFull) (heap : List Object) (symbols : List Symbol) (g : FlowGraph) (n : ℕ) (nd : Node) (p : ℕ) (w : IsWhole g) (is : g.node n ≡ Some nd) (got : slice_get (nodes_in g nd.block) p ≡ Some n)
-  (unused : (k : ℕ) → has_number k (listed nd.cont) ≡ true → dest_of g k ≡ []) (y : ℕ) (more : slice_get (nodes_in g nd.block) (suc p) ≡ Some y) (idle : HasNoEffect g n) where
+    (unused : (k : ℕ) → has_number k (listed nd.cont) ≡ true → dest_of g k ≡ []) (y : ℕ) (more : slice_get (nodes_in g nd.block) (suc p) ≡ Some y) (idle : HasNoEffect g n) where
   abbrev result : FlowGraph
   result = without_node n g
 

@@ -1,5 +1,5 @@
 -- Two codes that go along with each other and show the same: each keeps the meaning of the other.
-use Rattle.std.proofs.Common.{◌≡◌, ℕ, zero, suc, ◌<◌, ◌≤◌, ◌⊎◌, inl, inr, refl, sym, subst, arith}
+use Rattle.std.proofs.Common.{◌≡◌, ℕ, zero, suc, ◌<◌, ◌≤◌, ◌⊎◌, inl, inr, sym, subst, arith}
 use Rattle.layers.specs.Input.{Input}
 use Rattle.layers.specs.Shown.{Seen, IsFull, Covers, ComesTo}
 use Rattle.layers.specs.Layer.{Steps, after, layer_of, IsNeverFull}

@@ -6,20 +6,19 @@ use Rattle.std.proofs.lemmas.Option.{same_Some}
 use Rattle.lisp_base.specs.declared.values.Val.{Val}
 use Rattle.lisp_base.specs.declared.values.Place.TheVariants.{File}
 use Rattle.lisp_base.specs.Sort.{nil}
-use Rattle.core_form.specs.State.{Symbol, Arguments, Control as No_exit, State, Exit, first_of_values}
-use Rattle.core_form.specs.Effect.{Effect, ◌>>=◌, ◌>>◌, pure, stack_at, hold, spend, begin, box_all}
+use Rattle.core_form.specs.State.{Symbol, Arguments, Control as No_exit, State, Exit}
+use Rattle.core_form.specs.Effect.{◌>>=◌, ◌>>◌, pure, stack_at, hold, spend, begin, box_all}
 use Rattle.core_form.specs.Force.{Vals, Force, raise}
-use Rattle.core_form.specs.Primitives.{give}
 use Rattle.icr_graph.specs.declared.nodes.Node.{Node}
 use Rattle.icr_graph.specs.declared.nodes.Tag.{Tag}
 use Rattle.icr_graph.specs.declared.parts.Function.{Function}
 use Rattle.icr_graph.specs.Lists.{has_number}
 use Rattle.icr_graph.specs.Plain.{FlowGraph}
-use Rattle.graph_meaning.specs.Machine.{nothing, Activation, with_force, Arrival, Waiting, Caller, Landing, Tagged, Guarding, Binding, Keeping, Giving, Going_on, Control, Going, Calling, Returning, Leaving, Stopped, Next, Over, Machine, going, after}
-use Rattle.graph_meaning.specs.Reading.{node_at, entry_of, entry_number, entry_of_code, named, Found, function_at, first_function, takes}
+use Rattle.graph_meaning.specs.Machine.{Activation, Arrival, Waiting, Caller, Landing, Tagged, Guarding, Binding, Keeping, Giving, Going_on, Going, Returning, Leaving, Stopped, Next, Over, Machine, after}
+use Rattle.graph_meaning.specs.Reading.{entry_of, entry_number, entry_of_code, named, Found, function_at, first_function, takes}
 use Rattle.graph_meaning.specs.Effects.{delivered_by}
 use Rattle.graph_meaning.specs.Extents.{take_one, spent, block_of_tag, block_for, at_tag, lands, leave_on}
-use Rattle.graph_meaning.specs.Running.{gives, node_of, returns_to, force_within, activation, frame_of, begins, at_entry, enters, returns, form_activation, begins_at, begins_form}
+use Rattle.graph_meaning.specs.Running.{node_of, returns_to, force_within, activation, frame_of, begins, at_entry, enters, returns, form_activation, begins_at, begins_form}
 use Rattle.graph_edits.proofs.Alike.{Edit, edited, of_kind, activation_at, Stands, elsewhere, within, Pauses, elsewhere_at, within_at, Arrives, TagsArrive, Waits, no_more, same, called, Alike, alike, rests, stands, goes_on, stands_forced, stands_holding, comes_at, after_alike, either_alike}
 
 -- ---- two lists

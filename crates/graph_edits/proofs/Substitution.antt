@@ -1,13 +1,13 @@
 -- A continuation that is taken in the place of another keeps the meaning, where both hold the same when they are taken.
-use Rattle.std.proofs.Common.{◌≡◌, ◌≢◌, ◌⊎◌, inl, inr, refl, ap, sym, subst, subst₂, ◌∙◌, ℕ, zero, suc, Bool, true, false, ◌==◌, if◌then◌else◌, eq-eqb, ne_eqb, List, [], ◌∷◌, ◌++◌, map, map-id, length, Option, Some, None, option_map}
+use Rattle.std.proofs.Common.{◌≡◌, ◌≢◌, ◌⊎◌, inl, inr, refl, ap, sym, subst, subst₂, ◌∙◌, ℕ, suc, Bool, true, false, ◌==◌, if◌then◌else◌, eq-eqb, ne_eqb, List, [], ◌∷◌, ◌++◌, map-id, length, Option, Some, None, option_map}
 use Rattle.std.specs.Prelude.{slice_get}
 use Rattle.std.proofs.lemmas.Bool.{cases_eq}
 use Rattle.layers.specs.Input.{Input}
 use Rattle.layers.specs.Layer.{after}
 use Rattle.layers.specs.Keeping.{Keeps}
-use Rattle.core_form.specs.State.{Symbol, Object, State}
+use Rattle.core_form.specs.State.{Symbol, Object}
 use Rattle.core_form.specs.Effect.{Effect, ◌>>◌}
-use Rattle.core_form.specs.Force.{Vals, Force}
+use Rattle.core_form.specs.Force.{Vals}
 use Rattle.icr_graph.specs.declared.nodes.NodeKind.{NodeKind}
 use Rattle.icr_graph.specs.declared.nodes.NodeKind.TheVariants as kind
 use Rattle.icr_graph.specs.declared.nodes.Extent.{Extent}
@@ -16,24 +16,24 @@ use Rattle.icr_graph.specs.declared.nodes.Node.{Node}
 use Rattle.icr_graph.specs.declared.parts.Cont.{Cont}
 use Rattle.icr_graph.specs.Lists.{has_number, renumber, renumbered, numbers_of, listed, changed}
 use Rattle.icr_graph.specs.Kinds.{operands_of, arrivals_of, taking as taking_operands, extent_taking}
-use Rattle.icr_graph.specs.Plain.{FlowGraph, nodes_in, blocks_after, operands_at, dest_of}
+use Rattle.icr_graph.specs.Plain.{FlowGraph, nodes_in, blocks_after, dest_of}
 use Rattle.icr_graph.specs.Whole.{IsWhole}
 use Rattle.icr_graph.specs.Edits.{taken_by, taking_instead, substituted, substituted_at}
-use Rattle.icr_graph.specs.Faults.{is_empty, substitute_fault}
+use Rattle.icr_graph.specs.Faults.{is_empty}
 use Rattle.icr_graph.proofs.Regrouped.{has_another, has_one}
-use Rattle.icr_graph.proofs.Substituted.{renamed_other, renamed_old, renamed_new, substitute_allowed}
-use Rattle.graph_meaning.specs.Machine.{Delivered, nothing, without_all, delivered_to, or_no_values, values_at, Activation, Waiting, Machine, going}
-use Rattle.graph_meaning.specs.Reading.{assertions_on, named, node_at, variable_of_entry, variable_left}
+use Rattle.icr_graph.proofs.Substituted.{renamed_other, renamed_new, substitute_allowed}
+use Rattle.graph_meaning.specs.Machine.{Delivered, nothing, without_all, delivered_to, or_no_values, values_at, Machine}
+use Rattle.graph_meaning.specs.Reading.{assertions_on, named, variable_of_entry, variable_left}
 use Rattle.graph_meaning.specs.Effects.{test_operands, box_before}
-use Rattle.graph_meaning.specs.Running.{first_values, acts, step}
+use Rattle.graph_meaning.specs.Running.{first_values, step}
 use Rattle.graph_meaning.specs.AsLayer.{first_machine, graphs_together}
 use Rattle.graph_meaning.specs.Laws.{GraphsAreNeverFull}
 use Rattle.graph_edits.specs.Laws.{MeansTheSame, HoldTheSame, TakesTheSame, SubstitutionKept}
-use Rattle.graph_edits.proofs.Alike.{Edit, edited, with_others, of_kind, activation_at, AllArrive}
+use Rattle.graph_edits.proofs.Alike.{Edit, with_others, AllArrive}
 use Rattle.graph_edits.proofs.Steps.{got_has}
 use Rattle.graph_edits.proofs.Along.{Turn, runs, ends}
 use Rattle.graph_edits.proofs.Reading.{fits_from, chooses_same}
-use Rattle.graph_edits.proofs.Values.{Agrees, acts_agree, first_same, Passes, tests_pass, seen_through, first_renamed, acts_renamed, boxes_renamed, operands_taking, left_over}
+use Rattle.graph_edits.proofs.Values.{Agrees, acts_agree, first_same, tests_pass, seen_through, first_renamed, acts_renamed, boxes_renamed, operands_taking, left_over}
 use Rattle.graph_edits.proofs.Kept.{both_keep}
 use Rattle.graph_edits.proofs.Blocks.{node_live}
 
@@ -281,7 +281,7 @@ module _ (heap : List Object) (symbols : List Symbol) (prelude : ℕ) where
   reaches_next graphs m r = (r.0, suc r.1, ap (step symbols graphs) r.2)
 
 module _ (free : GraphsAreNeverFull) (heap : List Object) (symbols : List Symbol) (g : FlowGraph) (node old new : ℕ) (apart : old ≢ new) (taker : dest_of g old ≡ node ∷ []) (empty : dest_of g new ≡ []) (w : IsWhole g) (asserted : assertions_on (g.cont old) ≡ assertions_on (g.cont new))
-  (before_it : TakesTheSame heap symbols g (node ∷ []) old new) (behind_it : TakesTheSame heap symbols (substituted node old new g) (node ∷ []) old new) where
+    (before_it : TakesTheSame heap symbols g (node ∷ []) old new) (behind_it : TakesTheSame heap symbols (substituted node old new g) (node ∷ []) old new) where
   abbrev result : FlowGraph
   result = substituted node old new g
 

@@ -1,15 +1,13 @@
 -- A node does the same where its operands hold the same values, also under other continuations.
-use Rattle.std.proofs.Common.{◌≡◌, ◌≢◌, ◌⊎◌, inl, inr, refl, ap, sym, subst, ◌∙◌, ℕ, suc, ◌+◌, Bool, true, false, ◌||◌, ◌==◌, if◌then◌else◌, eq-eqb, ne_eqb, List, [], ◌∷◌, ◌++◌, length, map, Option, Some, None}
+use Rattle.std.proofs.Common.{◌≡◌, ◌≢◌, ◌⊎◌, inl, inr, refl, ap, sym, ◌∙◌, ℕ, suc, ◌+◌, Bool, true, false, ◌||◌, ◌==◌, if◌then◌else◌, eq-eqb, ne_eqb, List, [], ◌∷◌, ◌++◌, length, map, Option, None}
 use Rattle.std.specs.Prelude.{slice_get}
 use Rattle.std.proofs.lemmas.Bool.{cases_eq}
-use Rattle.lisp_base.specs.declared.values.Val.{Val}
 use Rattle.lisp_base.specs.declared.values.Val.TheVariants.{Sym}
 use Rattle.core_form.specs.State.{State, first_of_values}
 use Rattle.core_form.specs.Effect.{Effect, ◌>>=◌, ◌>>◌, pure, new_entry, stack_at, hold}
 use Rattle.core_form.specs.Force.{Vals, Force, is_true, deeper, keeping}
 use Rattle.core_form.specs.Primitives.{global_function}
 use Rattle.core_form.specs.Step.{with_catch, designated, not_too_many, spread, throw}
-use Rattle.icr_graph.specs.declared.nodes.Leaf.{Leaf}
 use Rattle.icr_graph.specs.declared.nodes.Operation.{Operation}
 use Rattle.icr_graph.specs.declared.nodes.Operation.TheVariants as operation
 use Rattle.icr_graph.specs.declared.nodes.NodeKind.{NodeKind}
@@ -23,10 +21,10 @@ use Rattle.icr_graph.specs.declared.parts.Assertion.{Assertion}
 use Rattle.icr_graph.specs.Lists.{has_number, renumber, renumbered}
 use Rattle.icr_graph.specs.Kinds.{operands_of, extent_operands, leaving_operands, taking as taking_operands, extent_taking, leaving_taking}
 use Rattle.icr_graph.specs.Plain.{FlowGraph, nodes_in, blocks_after}
-use Rattle.graph_meaning.specs.Machine.{Delivered, without_all, values_at, value_at, Activation, Waiting, Landing, Binding, Keeping, Returning, Machine, after}
+use Rattle.graph_meaning.specs.Machine.{Delivered, without_all, values_at, value_at, Activation, Waiting, Landing, Binding, Keeping, Returning, after}
 use Rattle.graph_meaning.specs.Reading.{assertions_on, lambda_of, variable_left}
 use Rattle.graph_meaning.specs.Effects.{test_all, test_operands, bind, assign, on_variable, box_before, operate}
-use Rattle.graph_meaning.specs.Extents.{enter_by, rebind, opened, open_extent, guard, leave_extent, goes_on, leave_by}
+use Rattle.graph_meaning.specs.Extents.{rebind, opened, open_extent, guard, leave_extent, goes_on, leave_by}
 use Rattle.graph_meaning.specs.Running.{gives, branches, first_values, all_values, calls, calls_known, others, closed_at, operates, combines, acts}
 
 -- these continuations hold the same values in both

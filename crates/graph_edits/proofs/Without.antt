@@ -1,49 +1,26 @@
 -- Lists without a number, and kinds of nodes without a partner.
-use Rattle.std.proofs.Common.{◌≡◌, ◌≢◌, ◌⊎◌, inl, inr, refl, ap, sym, subst, ◌∙◌, ℕ, zero, suc, ◌+◌, ◌-◌, ◌<◌, ◌≤◌, arith, Bool, true, false, not, ◌&&◌, ◌||◌, ◌==◌, if◌then◌else◌, eq-eqb, ne_eqb, List, [], ◌∷◌, ◌++◌, map, map-id, length, Option, Some, None, option_map}
+use Rattle.std.proofs.Common.{◌≡◌, ◌≢◌, refl, ap, sym, ◌∙◌, ℕ, zero, suc, ◌<◌, ◌≤◌, arith, Bool, true, false, not, ◌||◌, ◌==◌, eq-eqb, ne_eqb, List, [], ◌∷◌, Option, Some}
 use Rattle.std.specs.Prelude.{slice_get}
-use Rattle.std.specs.List.{list_any}
-use Rattle.std.proofs.lemmas.Bool.{cases_eq, cases_lt, eqb-true}
+use Rattle.std.proofs.lemmas.Bool.{eqb-true}
 use Rattle.std.proofs.lemmas.Option.{same_Some}
-use Rattle.layers.specs.Keeping.{Keeps}
-use Rattle.core_form.specs.State.{Symbol, Object, State}
-use Rattle.core_form.specs.Effect.{Ended, Gave, Left, Failed, Effect, ◌>>◌}
-use Rattle.core_form.specs.Force.{Vals, Force}
+use Rattle.core_form.specs.State.{State}
+use Rattle.core_form.specs.Force.{Vals}
 use Rattle.icr_graph.specs.declared.nodes.NodeKind.{NodeKind}
 use Rattle.icr_graph.specs.declared.nodes.NodeKind.TheVariants as kind
-use Rattle.icr_graph.specs.declared.nodes.Operation.TheVariants as operation
-use Rattle.icr_graph.specs.declared.nodes.Extent.{Extent}
-use Rattle.icr_graph.specs.declared.nodes.Extent.TheVariants as extent
 use Rattle.icr_graph.specs.declared.nodes.Leaving.{Leaving as Way}
 use Rattle.icr_graph.specs.declared.nodes.Leaving.TheVariants as way
 use Rattle.icr_graph.specs.declared.nodes.Node.{Node}
-use Rattle.icr_graph.specs.declared.parts.Cont.{Cont}
-use Rattle.icr_graph.specs.declared.parts.Block.{Block}
-use Rattle.icr_graph.specs.Lists.{has_number, are_distinct, without, other_than, numbers_of, listed, each, behind}
-use Rattle.icr_graph.specs.Kinds.{operands_of, arrivals_of, apart_from, is_if}
-use Rattle.icr_graph.specs.Plain.{FlowGraph, nodes_in, blocks_after, block_of, cont_of, operands_at, dest_of}
-use Rattle.icr_graph.specs.Whole.{IsWhole}
-use Rattle.icr_graph.specs.Edits.{alone, not_taken_by, not_used_by, not_holding, no_arrival_of, without_node}
-use Rattle.icr_graph.specs.Faults.{is_empty, is_node, are_taken, is_last_in, retire_fault}
-use Rattle.icr_graph.proofs.Allowed.{passed}
-use Rattle.icr_graph.proofs.Distinct.{both_hold, not_true, neither}
+use Rattle.icr_graph.specs.Lists.{has_number, are_distinct, without, other_than, behind}
+use Rattle.icr_graph.specs.Kinds.{operands_of, apart_from}
+use Rattle.icr_graph.specs.Plain.{FlowGraph}
+use Rattle.icr_graph.proofs.Distinct.{both_hold, not_true}
 use Rattle.icr_graph.proofs.Touched.{without_none}
-use Rattle.icr_graph.proofs.Regrouped.{has_another, has_one}
-use Rattle.graph_meaning.specs.Machine.{Delivered, nothing, without_all, delivered_to, or_no_values, values_at, Activation, Waiting, Control, Going, Leaving, Stopped, Machine, going, after}
-use Rattle.graph_meaning.specs.Reading.{assertions_on, named, node_at, variable_of_entry, variable_left}
-use Rattle.graph_meaning.specs.Effects.{test_operands, box_before}
-use Rattle.graph_meaning.specs.Extents.{leave_by, leave_extent}
-use Rattle.graph_meaning.specs.Running.{first_values, acts, runs_node, runs_at}
-use Rattle.graph_meaning.specs.AsLayer.{graphs_together}
-use Rattle.graph_meaning.specs.Laws.{GraphsAreNeverFull}
-use Rattle.graph_edits.specs.Laws.{MeansTheSame, HasNoEffect, RetiringKept}
-use Rattle.graph_edits.proofs.Alike.{Edit, edited, with_others, of_kind, activation_at, AllArrive}
+use Rattle.graph_meaning.specs.Machine.{Delivered, Activation, Waiting}
+use Rattle.graph_meaning.specs.Reading.{variable_of_entry, variable_left}
+use Rattle.graph_meaning.specs.Effects.{box_before}
+use Rattle.graph_meaning.specs.Extents.{leave_by}
+use Rattle.graph_meaning.specs.Running.{acts}
 use Rattle.graph_edits.proofs.Steps.{got_has}
-use Rattle.graph_edits.proofs.Nodes.{Chooses, behind_both}
-use Rattle.graph_edits.proofs.Along.{Turn, runs, ends, lags}
-use Rattle.graph_edits.proofs.Reading.{got_some, fits_from, chooses_same}
-use Rattle.graph_edits.proofs.Values.{Agrees, acts_agree, first_same, tests_pass, left_over}
-use Rattle.graph_edits.proofs.Kept.{both_keep}
-use Rattle.graph_edits.proofs.Blocks.{node_live, true_of}
 
 -- ---- a list without a number that stands in it once
 
