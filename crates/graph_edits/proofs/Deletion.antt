@@ -1,7 +1,9 @@
 -- A block that may be deleted is never reached, and its deletion keeps the meaning of a graph.
 use Rattle.std.proofs.Common.{◌≡◌, ◌≢◌, ◌⊎◌, inl, inr, refl, ap, sym, subst, ◌∙◌, ℕ, Bool, true, false, ◌||◌, ◌==◌, if◌then◌else◌, eq-eqb, ne_eqb, List, [], ◌∷◌, ◌++◌, length, Option, Some, None, option_map}
 use Rattle.std.specs.Prelude.{slice_get}
-use Rattle.std.proofs.lemmas.Bool.{cases_eq}
+use Rattle.std.proofs.lemmas.Bool.{cases_eq, eqb-false}
+use Rattle.layers.specs.Input.{Input}
+use Rattle.layers.specs.Layer.{after as steps_after}
 use Rattle.layers.specs.Keeping.{Keeps}
 use Rattle.core_form.specs.State.{Symbol, Object, State}
 use Rattle.core_form.specs.Force.{Vals}
@@ -22,48 +24,53 @@ use Rattle.icr_graph.proofs.Regrouped.{one_block}
 use Rattle.graph_meaning.specs.Machine.{Delivered, Activation, Waiting, Machine}
 use Rattle.graph_meaning.specs.Reading.{assertions_on, named, variable_of_entry, variable_left}
 use Rattle.graph_meaning.specs.Effects.{box_before}
-use Rattle.graph_meaning.specs.Running.{acts}
-use Rattle.graph_meaning.specs.AsLayer.{graphs_together}
+use Rattle.graph_meaning.specs.Running.{acts, step}
+use Rattle.graph_meaning.specs.AsLayer.{first_machine, graphs_together}
 use Rattle.graph_meaning.specs.Laws.{GraphsAreNeverFull}
-use Rattle.graph_edits.specs.Laws.{AtEachMoment, MeansTheSame, DeletableUnreached, LeavesNone, DeletionKept}
-use Rattle.graph_edits.proofs.Alike.{with_others}
+use Rattle.graph_edits.specs.Laws.{AtEachMoment, MeansTheSame, AreCutOff, CutOffUnreached, LeavesNone, DeletionKept, DeletionByShapeKept}
+use Rattle.graph_edits.proofs.Alike.{Edit, with_others}
 use Rattle.graph_edits.proofs.Steps.{got_has}
 use Rattle.graph_edits.proofs.Along.{Turn}
 use Rattle.graph_edits.proofs.Without.{same_operands, same_boxes, same_extent}
 use Rattle.graph_edits.proofs.Kept.{each_alike, both_keep}
 use Rattle.graph_edits.proofs.Blocks.{node_live}
 use Rattle.graph_edits.proofs.Substitution.{Reached, reaches_next}
-use Rattle.graph_edits.proofs.Outside.{Outside, outside, IsCutOff, cut_off, IsSameKind, around, no_rank, ReadsTheSame, end_turn, node_turn, away}
+use Rattle.graph_edits.proofs.Outside.{Outside, outside, deletable_cut_off, IsSameKind, around, no_rank, ReadsTheSame, end_turn, node_turn, away}
 
--- ---- no run comes to the block
+-- ---- no run comes to a block that is cut off
 
-module _ (free : GraphsAreNeverFull) (heap : List Object) (symbols : List Symbol) (g : FlowGraph) (b : ℕ) (w : IsWhole g) (off : IsCutOff g b) (number : ℕ) where
-  reads_itself : ReadsTheSame number g b w off g.node g.cont g.block
+module _ (g : FlowGraph) (cut : ℕ → Bool) (w : IsWhole g) (off : AreCutOff g cut) (number : ℕ) where
+  abbrev pub itself : Edit
+  itself = around number g cut off g.node g.cont g.block
+
+  abbrev pub itself_rank : ℕ → ℕ → ℕ
+  itself_rank = no_rank number g cut off g.node g.cont g.block
+
+  reads_itself : ReadsTheSame number g cut off g.node g.cont g.block
   reads_itself = record { same_nodes = λ c other. refl; same_after = λ c other. refl; same_assertions = λ k. refl }
 
   same_itself : (nd : Node) → IsSameKind g g nd nd.kind
   same_itself nd = record { operands = refl; arrivals = refl; boxes = λ vs. refl; does = λ start d a ws s. refl; left = λ entry e. refl }
 
-  itself_turn : {c i c' i' : ℕ} {d d' : Delivered} → Outside b c i c' i' → d ≡ d' → Turn (around number g b w off g.node g.cont g.block) (no_rank number g b w off g.node g.cont g.block) c i c' i' d d'
+  itself_turn : {c i c' i' : ℕ} {d d' : Delivered} → Outside cut c i c' i' → d ≡ d' → Turn itself itself_rank c i c' i' d d'
   itself_turn {d = d} {d' = d'} (outside c i other) e = by_case (slice_get (nodes_in g c) i) refl
     where
-      by_case : (o : Option ℕ) → slice_get (nodes_in g c) i ≡ o → Turn (around number g b w off g.node g.cont g.block) (no_rank number g b w off g.node g.cont g.block) c i c i d d'
-      by_case None got = end_turn number g b w off g.node g.cont g.block reads_itself c i other e got
+      by_case : (o : Option ℕ) → slice_get (nodes_in g c) i ≡ o → Turn itself itself_rank c i c i d d'
+      by_case None got = end_turn number g cut off g.node g.cont g.block reads_itself c i other e got
       by_case (Some m) got =
           let nd = node_live g w c m (got_has (nodes_in g c) i m got) in
-          node_turn number g b w off g.node g.cont g.block reads_itself c i other e m nd.0 nd.0.kind nd.0.block got nd.1 nd.1 (same_itself nd.0)
+          node_turn number g cut off g.node g.cont g.block reads_itself c i other e m nd.0 nd.0.kind nd.0.block got nd.1 nd.1 (same_itself nd.0)
 
-pub unreached_same : GraphsAreNeverFull → DeletableUnreached
-unreached_same free heap symbols g b w h prelude before behind input k =
-    let off = cut_off g b w h in
-    let al = each_alike free heap symbols (around (length before) g b w off g.node g.cont g.block) (no_rank (length before) g b w off g.node g.cont g.block) prelude before behind refl (λ m m'. Unit {0})
-    (record {
-      turn = λ us born f ws ws' s sure spot held. itself_turn free heap symbols g b w off (length before) spot held;
-      both_sure = λ m m' u. tt;
-      one_sure = λ m m' u. tt;
-    })
-    (λ i. tt) 0 0 input k in
-    away (length before) g b w off g.node g.cont g.block al.1
+pub unreached_same : GraphsAreNeverFull → CutOffUnreached
+unreached_same free heap symbols g cut w off prelude before behind input k =
+    let al = each_alike free heap symbols (itself g cut w off (length before)) (itself_rank g cut w off (length before)) prelude before behind refl (λ m m'. Unit {0})
+      (record {
+        turn = λ us born f ws ws' s sure spot held. itself_turn g cut w off (length before) spot held;
+        both_sure = λ m m' u. tt;
+        one_sure = λ m m' u. tt;
+      })
+      (λ i. tt) 0 0 input k in
+    away (length before) g cut off g.node g.cont g.block al.1
 
 -- ---- kinds without partners
 
@@ -214,7 +221,10 @@ all_else (n ∷ ns) g = all_else ns (without_node n g)
 
 -- ---- the graph without the block
 
-module _ (g : FlowGraph) (b : ℕ) (w : IsWhole g) (off : IsCutOff g b) (number : ℕ) where
+module _ (g : FlowGraph) (b : ℕ) (w : IsWhole g) (off : AreCutOff g (λ c. c == b)) (number : ℕ) where
+  abbrev pub is_it : ℕ → Bool
+  is_it c = c == b
+
   abbrev ns : List ℕ
   ns = nodes_in g b
 
@@ -245,10 +255,10 @@ module _ (g : FlowGraph) (b : ℕ) (w : IsWhole g) (off : IsCutOff g b) (number 
           absurd_of q = cc
       by_case false h = refl
 
-  reads_same : ReadsTheSame number g b w off other_nodes other_conts other_blocks
+  reads_same : ReadsTheSame number g is_it off other_nodes other_conts other_blocks
   reads_same = record {
-    same_nodes = λ c other. rw (ne_eqb c b other) (by_nodes ((without_nodes ns g).block c)) ∙ nodes_kept ns g c (in_no_other c other);
-    same_after = λ c other. rw (ne_eqb c b other) (by_after ((without_nodes ns g).block c)) ∙ (ap (without b) (after_kept ns g c) ∙ without_none b (blocks_after g c) (off.far c other));
+    same_nodes = λ c other. rw other (by_nodes ((without_nodes ns g).block c)) ∙ nodes_kept ns g c (in_no_other c (eqb-false c b other));
+    same_after = λ c other. rw other (by_after ((without_nodes ns g).block c)) ∙ (ap (without b) (after_kept ns g c) ∙ without_none b (blocks_after g c) (off.edges c other));
     same_assertions = assertions_kept ns g;
   }
     where
@@ -300,21 +310,21 @@ module _ (g : FlowGraph) (b : ℕ) (w : IsWhole g) (off : IsCutOff g b) (number 
       left_by : (j : ℕ) → has_number j (entry_left (apart_from_all ns nd.kind)) ≡ true → has_number j ns ≢ true
       left_by j h = apart j (named_before ns nd.kind j h)
 
-  pub deleting_turn : {c i c' i' : ℕ} {d d' : Delivered} → Outside b c i c' i' → d ≡ d' →
+  pub deleting_turn : {c i c' i' : ℕ} {d d' : Delivered} → Outside is_it c i c' i' → d ≡ d' →
       ((n e : ℕ) → slice_get (nodes_in g c) i ≡ Some n → has_number e (entry_left_at g n) ≡ true → has_number e ns ≢ true) →
-      Turn (around number g b w off other_nodes other_conts other_blocks) (no_rank number g b w off other_nodes other_conts other_blocks) c i c' i' d d'
+      Turn (around number g is_it off other_nodes other_conts other_blocks) (no_rank number g is_it off other_nodes other_conts other_blocks) c i c' i' d d'
   deleting_turn {d = d} {d' = d'} (outside c i other) e apart = by_case (slice_get (nodes_in g c) i) refl
     where
-      by_case : (o : Option ℕ) → slice_get (nodes_in g c) i ≡ o → Turn (around number g b w off other_nodes other_conts other_blocks) (no_rank number g b w off other_nodes other_conts other_blocks) c i c i d d'
-      by_case None got = end_turn number g b w off other_nodes other_conts other_blocks reads_same c i other e got
+      by_case : (o : Option ℕ) → slice_get (nodes_in g c) i ≡ o → Turn (around number g is_it off other_nodes other_conts other_blocks) (no_rank number g is_it off other_nodes other_conts other_blocks) c i c i d d'
+      by_case None got = end_turn number g is_it off other_nodes other_conts other_blocks reads_same c i other e got
       by_case (Some m) got =
           let nd = node_live g w c m (got_has (nodes_in g c) i m got) in
           let names = ap (λ (o : Option Node). numbers_of (λ x. entry_left x.kind) o) (sym nd.1) in
-          node_turn number g b w off other_nodes other_conts other_blocks reads_same c i other e m nd.0 (apart_from_all ns nd.0.kind) nd.0.block got nd.1
-          (nodes_left ns g m (not_gone c m other (got_has (nodes_in g c) i m got)) ∙ ap (option_map (alone_of_all ns)) nd.1)
+          node_turn number g is_it off other_nodes other_conts other_blocks reads_same c i other e m nd.0 (apart_from_all ns nd.0.kind) nd.0.block got nd.1
+          (nodes_left ns g m (not_gone c m (eqb-false c b other) (got_has (nodes_in g c) i m got)) ∙ ap (option_map (alone_of_all ns)) nd.1)
           (same_kind nd.0 (λ j has. apart m j got (ap (has_number j) (sym names) ∙ has)))
 
-module _ (free : GraphsAreNeverFull) (heap : List Object) (symbols : List Symbol) (g : FlowGraph) (b : ℕ) (w : IsWhole g) (off : IsCutOff g b) (quiet : AtEachMoment heap symbols g (λ number m. LeavesNone g number (nodes_in g b) m)) where
+module _ (free : GraphsAreNeverFull) (heap : List Object) (symbols : List Symbol) (g : FlowGraph) (b : ℕ) (w : IsWhole g) (off : AreCutOff g (λ c. c == b)) (quiet : AtEachMoment heap symbols g (λ number m. LeavesNone g number (nodes_in g b) m)) where
   abbrev nodes_after : ℕ → Option Node
   nodes_after = (without_nodes (nodes_in g b) g).node
 
@@ -338,7 +348,7 @@ module _ (free : GraphsAreNeverFull) (heap : List Object) (symbols : List Symbol
         Keeps bytes stack (graphs_together heap symbols prelude first_list) (graphs_together heap symbols prelude second_list)
         × Keeps bytes stack (graphs_together heap symbols prelude second_list) (graphs_together heap symbols prelude first_list)
     both_among bytes stack =
-        both_keep free heap symbols (around (length before) g b w off nodes_after conts_after blocks_left) (no_rank (length before) g b w off nodes_after conts_after blocks_left) prelude before behind refl
+        both_keep free heap symbols (around (length before) g (λ c. c == b) off nodes_after conts_after blocks_left) (no_rank (length before) g (λ c. c == b) off nodes_after conts_after blocks_left) prelude before behind refl
         (λ m m'. Reached heap symbols prelude first_list m)
         (record {
           turn = λ us born f ws ws' s sure spot held.
@@ -356,4 +366,16 @@ module _ (free : GraphsAreNeverFull) (heap : List Object) (symbols : List Symbol
   deleted_means = subst (λ (h : FlowGraph). MeansTheSame heap symbols g h) (ap (without_block b) (all_else (nodes_in g b) g)) result_means
 
 pub deletion_kept_same : GraphsAreNeverFull → DeletionKept
-deletion_kept_same free heap symbols g b w h quiet = deleted_means free heap symbols g b w (cut_off g b w h) quiet
+deletion_kept_same free heap symbols g b w h quiet = deleted_means free heap symbols g b w (deletable_cut_off g b w h) quiet
+
+pub deletion_by_shape_same : GraphsAreNeverFull → DeletionByShapeKept
+deletion_by_shape_same free heap symbols g b cut w h off inside =
+    deletion_kept_same free heap symbols g b w h (λ prelude before behind input k going here n e got leaves there.
+    both_ways (unreached_same free heap symbols g cut w off prelude before behind input k going here)
+    (inside (machine prelude before behind input k).here.block n e (got_has (nodes_in g (machine prelude before behind input k).here.block) (machine prelude before behind input k).here.index n got) leaves there))
+  where
+    machine : (prelude : ℕ) (before behind : List FlowGraph) (input : Input) (k : ℕ) → Machine
+    machine prelude before behind input k = steps_after (step symbols (before ++ g ∷ behind)) k (first_machine heap symbols prelude (before ++ g ∷ behind) input.letters)
+
+    both_ways : {t : Bool} → t ≡ false → t ≡ true → ⊥
+    both_ways e q = cc

@@ -1,12 +1,13 @@
 -- That edits keep the meaning of a graph, as the contracts of this crate state it. (This project's own.)
-use Rattle.std.specs.Prelude.{◌≡◌, ◌≢◌, ℕ, true, List, ◌∷◌, ◌++◌, length, slice_get, Some, None}
+use Rattle.std.specs.Prelude.{◌≡◌, ◌≢◌, ℕ, Bool, true, false, ◌==◌, List, ◌∷◌, ◌++◌, length, slice_get, Some, None}
+use Rattle.std.specs.List.{list_any}
 use Rattle.layers.specs.Input.{Input}
 use Rattle.layers.specs.Layer.{after}
 use Rattle.layers.specs.Among.{KeepsAmong}
 use Rattle.core_form.specs.State.{Symbol, Object, State}
 use Rattle.icr_graph.specs.Lists.{has_number}
 use Rattle.core_form.specs.Force.{Vals}
-use Rattle.icr_graph.specs.Plain.{FlowGraph, nodes_in, block_of, dest_of, entry_left_at}
+use Rattle.icr_graph.specs.Plain.{FlowGraph, nodes_in, blocks_after, block_of, dest_of, arrivals_at, entry_left_at, entries_of}
 use Rattle.icr_graph.specs.Whole.{IsWhole}
 use Rattle.icr_graph.specs.declared.nodes.Node.{Node}
 use Rattle.icr_graph.specs.Kinds.{operands_of}
@@ -81,15 +82,26 @@ RetiringKept =
 
 -- ---- a block that is deleted
 
--- the run doesn't stand in this block of the graph of this number
-abbrev pub StandsElsewhere : (number block : ℕ) → Machine → Type 0
-StandsElsewhere number b m = m.control ≡ Going → m.here.graph ≡ number → m.here.block ≢ b
+-- These blocks of a graph are cut off: no other block leads to one, no node in another lets exits arrive at one, and no
+-- function begins at one.
+pub record AreCutOff (g : FlowGraph) (cut : ℕ → Bool) : Type 0 where
+  pub edges : (b : ℕ) → cut b ≡ false → list_any cut (blocks_after g b) ≡ false
+  pub arrivals : (b n : ℕ) → cut b ≡ false → has_number n (nodes_in g b) ≡ true → list_any cut (arrivals_at g n) ≡ false
+  pub entries : (f : ℕ) → list_any cut (entries_of g f) ≡ false
 
--- no run ever stands in a block that may be deleted
-abbrev pub DeletableUnreached : Type 0
-DeletableUnreached =
-    (heap : List Object) (symbols : List Symbol) (g : FlowGraph) (b : ℕ) →
-    IsWhole g → delete_fault g b ≡ None → AtEachMoment heap symbols g (λ number m. StandsElsewhere number b m)
+-- where a run stands in the graph of this number, its block is not one of these
+abbrev pub StandsElsewhere : (number : ℕ) → (cut : ℕ → Bool) → Machine → Type 0
+StandsElsewhere number cut m = m.control ≡ Going → m.here.graph ≡ number → cut m.here.block ≡ false
+
+-- no run ever stands in a block that is cut off
+abbrev pub CutOffUnreached : Type 0
+CutOffUnreached =
+    (heap : List Object) (symbols : List Symbol) (g : FlowGraph) (cut : ℕ → Bool) →
+    IsWhole g → AreCutOff g cut → AtEachMoment heap symbols g (λ number m. StandsElsewhere number cut m)
+
+-- a block that may be deleted is cut off
+abbrev pub DeletableCutOff : Type 0
+DeletableCutOff = (g : FlowGraph) (b : ℕ) → IsWhole g → delete_fault g b ≡ None → AreCutOff g (λ c. c == b)
 
 -- where an exit of the graph of this number comes next, it names none of these entries
 abbrev pub LeavesNone : FlowGraph → (number : ℕ) → (entries : List ℕ) → Machine → Type 0
@@ -103,3 +115,14 @@ DeletionKept =
     (heap : List Object) (symbols : List Symbol) (g : FlowGraph) (b : ℕ) →
     IsWhole g → delete_fault g b ≡ None → AtEachMoment heap symbols g (λ number m. LeavesNone g number (nodes_in g b) m) →
     MeansTheSame heap symbols g (deleted b g)
+
+-- every exit that names one of these entries stands in a block that is cut off
+abbrev pub AreLeftInside : FlowGraph → (cut : ℕ → Bool) → (entries : List ℕ) → Type 0
+AreLeftInside g cut entries =
+    (b n e : ℕ) → has_number n (nodes_in g b) ≡ true → has_number e (entry_left_at g n) ≡ true → has_number e entries ≡ true → cut b ≡ true
+
+-- so it is, by the shape of the graph, where such exits stand in blocks that are cut off
+abbrev pub DeletionByShapeKept : Type 0
+DeletionByShapeKept =
+    (heap : List Object) (symbols : List Symbol) (g : FlowGraph) (b : ℕ) (cut : ℕ → Bool) →
+    IsWhole g → delete_fault g b ≡ None → AreCutOff g cut → AreLeftInside g cut (nodes_in g b) → MeansTheSame heap symbols g (deleted b g)

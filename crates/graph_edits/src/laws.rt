@@ -1,6 +1,6 @@
 // Laws of edits of graphs. Each function does nothing: a call of it gives its law.
 
-ghost use Rattle.graph_edits.specs.Laws.{DeletableUnreached, DeletionKept, JoinKept, RetiringKept, SplitKept, SubstitutionKept};
+ghost use Rattle.graph_edits.specs.Laws.{CutOffUnreached, DeletableCutOff, DeletionByShapeKept, DeletionKept, JoinKept, RetiringKept, SplitKept, SubstitutionKept};
 
 /// A whole graph whose block is split behind a node, and one of which two blocks are joined, mean
 /// what the graph meant, whatever graphs run around it: each keeps the other's meaning.
@@ -21,10 +21,13 @@ pub fn retiring_kept()
     ensures { RetiringKept }
 {}
 
-/// A whole graph from which a block is deleted means what it meant, if no run comes to an exit that
-/// names an entry of the block: such an exit would find no entry afterwards. No run ever stands in a
-/// block that may be deleted.
+/// No run ever stands in blocks that are cut off from the others; a block that may be deleted is. A
+/// whole graph from which such a block is deleted means what it meant, if no run comes to an exit
+/// that names an entry of the block, as where these exits stand in blocks that are cut off: such an
+/// exit would find no entry afterwards.
 pub fn deletion_kept()
-    ensures unreached { DeletableUnreached }
+    ensures unreached { CutOffUnreached }
+    ensures deletable { DeletableCutOff }
     ensures kept { DeletionKept }
+    ensures by_shape { DeletionByShapeKept }
 {}
