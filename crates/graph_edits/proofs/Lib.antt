@@ -15,3 +15,4 @@ pub mod Without
 pub mod Retiring
 pub mod Outside
 pub mod Deletion
+pub mod Idle

@@ -1,6 +1,6 @@
 -- That edits keep the meaning of a graph, as the contracts of this crate state it. (This project's own.)
-use Rattle.std.specs.Prelude.{◌≡◌, ◌≢◌, ℕ, Bool, true, false, ◌==◌, List, ◌∷◌, ◌++◌, length, slice_get, Some, None}
-use Rattle.std.specs.List.{list_any}
+use Rattle.std.specs.Prelude.{◌≡◌, ◌≢◌, ℕ, Bool, true, false, not, ◌==◌, List, ◌∷◌, ◌++◌, length, slice_get, Some, None}
+use Rattle.std.specs.List.{list_any, list_all}
 use Rattle.layers.specs.Input.{Input}
 use Rattle.layers.specs.Layer.{after}
 use Rattle.layers.specs.Among.{KeepsAmong}
@@ -9,7 +9,13 @@ use Rattle.icr_graph.specs.Lists.{has_number}
 use Rattle.core_form.specs.Force.{Vals}
 use Rattle.icr_graph.specs.Plain.{FlowGraph, nodes_in, blocks_after, block_of, dest_of, arrivals_at, entry_left_at, entries_of}
 use Rattle.icr_graph.specs.Whole.{IsWhole}
+use Rattle.icr_graph.specs.declared.nodes.Leaf.{Leaf}
+use Rattle.icr_graph.specs.declared.nodes.Leaf.TheVariants as leaf
+use Rattle.icr_graph.specs.declared.nodes.Operation.TheVariants as operation
+use Rattle.icr_graph.specs.declared.nodes.NodeKind.{NodeKind}
+use Rattle.icr_graph.specs.declared.nodes.NodeKind.TheVariants as kind
 use Rattle.icr_graph.specs.declared.nodes.Node.{Node}
+use Rattle.icr_graph.specs.declared.parts.Assertion.{Assertion}
 use Rattle.icr_graph.specs.Kinds.{operands_of}
 use Rattle.icr_graph.specs.Edits.{joined, substituted_at, without_node, deleted}
 use Rattle.icr_graph.specs.Faults.{substitute_fault, retire_fault, delete_fault}
@@ -74,7 +80,38 @@ HasNoEffect g n =
     (nd : Node) → g.node n ≡ Some nd → (start : ℕ) (a : Activation) (ws : List Waiting) (s : State) → slice_get (nodes_in g a.block) a.index ≡ Some n →
     (vs : Vals) × (runs_node g start nd a ws s ≡ going (advanced (holding nd.cont vs (taking (operands_of nd.kind) a))) ws s)
 
--- such a node, whose values nobody takes, is gone
+-- a leaf that is only read: a constant, a variable, an argument, or whether there is one
+abbrev pub is_reading : Leaf → Bool
+is_reading (leaf.Constant v) = true
+is_reading (leaf.Variable x) = true
+is_reading (leaf.Argument i) = true
+is_reading (leaf.Supplied i) = true
+is_reading l = false
+
+-- whether a node of this kind only reads, tests a type or passes values on
+abbrev pub is_plain : NodeKind → Bool
+is_plain (kind.Ref l) = is_reading l
+is_plain (kind.Combination (operation.Is t) ks) = true
+is_plain (kind.Combination operation.Values ks) = true
+is_plain (kind.Combination operation.Pass ks) = true
+is_plain k = false
+
+-- whether none of these assertions is tested
+abbrev pub are_unchecked : List Assertion → Bool
+are_unchecked ts = list_all (λ t. not t.checked) ts
+
+-- a plain node that costs nothing and counts nothing, of whose operands nothing is tested
+pub record IsIdle (g : FlowGraph) (nd : Node) : Type 0 where
+  pub plain : is_plain nd.kind ≡ true
+  pub cost : nd.charges.cost ≡ 0
+  pub levels : nd.charges.levels ≡ 0
+  pub boxing : nd.charges.boxing ≡ 0
+  pub unchecked : list_all (λ k. are_unchecked (assertions_on (g.cont k))) (operands_of nd.kind) ≡ true
+
+abbrev pub IdleHaveNoEffect : Type 0
+IdleHaveNoEffect = (g : FlowGraph) (n : ℕ) (nd : Node) → g.node n ≡ Some nd → IsIdle g nd → HasNoEffect g n
+
+-- a node without an effect, whose values nobody takes, is gone
 abbrev pub RetiringKept : Type 0
 RetiringKept =
     (heap : List Object) (symbols : List Symbol) (g : FlowGraph) (n : ℕ) →

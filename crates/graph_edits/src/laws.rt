@@ -1,6 +1,6 @@
 // Laws of edits of graphs. Each function does nothing: a call of it gives its law.
 
-ghost use Rattle.graph_edits.specs.Laws.{CutOffUnreached, DeletableCutOff, DeletionByShapeKept, DeletionKept, JoinKept, RetiringKept, SplitKept, SubstitutionKept};
+ghost use Rattle.graph_edits.specs.Laws.{CutOffUnreached, DeletableCutOff, DeletionByShapeKept, DeletionKept, IdleHaveNoEffect, JoinKept, RetiringKept, SplitKept, SubstitutionKept};
 
 /// A whole graph whose block is split behind a node, and one of which two blocks are joined, mean
 /// what the graph meant, whatever graphs run around it: each keeps the other's meaning.
@@ -16,9 +16,11 @@ pub fn substitution_kept()
 {}
 
 /// A whole graph from which a node is retired that has no effect, and whose values nobody takes,
-/// means what it meant.
+/// means what it meant. A node has no effect that only reads, tests a type or passes values on, if
+/// it costs and counts nothing, and nothing that is asserted of its operands is tested.
 pub fn retiring_kept()
-    ensures { RetiringKept }
+    ensures kept { RetiringKept }
+    ensures idle { IdleHaveNoEffect }
 {}
 
 /// No run ever stands in blocks that are cut off from the others; a block that may be deleted is. A
