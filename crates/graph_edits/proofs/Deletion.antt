@@ -64,12 +64,12 @@ module _ (g : FlowGraph) (cut : ℕ → Bool) (w : IsWhole g) (off : AreCutOff g
 pub unreached_same : GraphsAreNeverFull → CutOffUnreached
 unreached_same free heap symbols g cut w off prelude before behind input k =
     let al = each_alike free heap symbols (itself g cut w off (length before)) (itself_rank g cut w off (length before)) prelude before behind refl (λ m m'. Unit {0})
-      (record {
-        turn = λ us born f ws ws' s sure spot held. itself_turn g cut w off (length before) spot held;
-        both_sure = λ m m' u. tt;
-        one_sure = λ m m' u. tt;
-      })
-      (λ i. tt) 0 0 input k in
+    (record {
+      turn = λ us born f ws ws' s sure spot held. itself_turn g cut w off (length before) spot held;
+      both_sure = λ m m' u. tt;
+      one_sure = λ m m' u. tt;
+    })
+    (λ i. tt) 0 0 input k in
     away (length before) g cut off g.node g.cont g.block al.1
 
 -- ---- kinds without partners

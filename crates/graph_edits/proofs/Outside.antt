@@ -14,9 +14,8 @@ use Rattle.icr_graph.specs.declared.parts.Function.{Function}
 use Rattle.icr_graph.specs.Lists.{has_number, listed, numbers_of}
 use Rattle.icr_graph.specs.Kinds.{operands_of, arrivals_of, entry_left}
 use Rattle.icr_graph.specs.Plain.{FlowGraph, nodes_in, blocks_before, blocks_after, arriving_at, entered_by}
-use Rattle.icr_graph.specs.Whole.{IsWhole}
 use Rattle.graph_edits.specs.Laws.{AreCutOff, DeletableCutOff}
-use Rattle.icr_graph.specs.Faults.{is_block, is_entered, is_empty, has_other_before, delete_fault}
+use Rattle.icr_graph.specs.Faults.{is_block, is_entered, is_empty, has_other_before}
 use Rattle.icr_graph.proofs.Allowed.{passed}
 use Rattle.icr_graph.proofs.Distinct.{neither}
 use Rattle.graph_meaning.specs.Machine.{Delivered, without_all, delivered_to, Activation, Waiting, Going, Machine}
@@ -27,9 +26,8 @@ use Rattle.graph_edits.proofs.Alike.{Edit, with_others, of_kind, AllArrive, else
 use Rattle.graph_edits.proofs.Steps.{got_has}
 use Rattle.graph_edits.proofs.Nodes.{Chooses}
 use Rattle.graph_edits.proofs.Along.{Turn, runs, ends}
-use Rattle.graph_edits.proofs.Reading.{apart_first, apart_rest, apart_from_all, fits_by, chooses_same}
+use Rattle.graph_edits.proofs.Reading.{fits_by, chooses_same}
 use Rattle.graph_edits.proofs.Values.{tests_pass}
-use Rattle.graph_edits.proofs.Blocks.{none_entered, none_arrives}
 
 -- the same place, in a block that isn't cut off
 pub data Outside (cut : ℕ → Bool) : (c i c' i' : ℕ) → Type 0 where

@@ -5,8 +5,8 @@ use Rattle.layers.specs.Input.{Input}
 use Rattle.layers.specs.Layer.{after}
 use Rattle.layers.specs.Among.{KeepsAmong}
 use Rattle.core_form.specs.State.{Symbol, Object, State}
-use Rattle.icr_graph.specs.Lists.{has_number}
 use Rattle.core_form.specs.Force.{Vals}
+use Rattle.icr_graph.specs.Lists.{has_number}
 use Rattle.icr_graph.specs.Plain.{FlowGraph, nodes_in, blocks_after, block_of, dest_of, arrivals_at, entry_left_at, entries_of}
 use Rattle.icr_graph.specs.Whole.{IsWhole}
 use Rattle.icr_graph.specs.declared.nodes.Leaf.{Leaf}
