@@ -1,0 +1,9 @@
+//! What stands under the numbers of a top-level form: its functions in the order of the text, its
+//! blocks, tags and local functions.
+#![tactic(auto)]
+
+mod names;
+mod parts;
+
+pub use names::{FormNames, form_names, functions_in};
+pub use parts::{TagName, Text};
