@@ -10,8 +10,8 @@ returns-in-Labels c =
     let old = parts_list c.args.noted.now.items in
     let new = parts_list c.note_definitions.new.noted.items in
     let read = as_read c.args.core.now _ _ c.in-Labels.is (c.reads_nodes.ensures.functions _ c.in-Labels.definitions c.in-Labels.field-1) in
-    carry c.note_definitions.result new old old (definition_parts (definitions_list c.deref-in-Labels.result.now)) (node_parts (core_of c.args.core.now))
-    (λ h. by_node old new c.args.core.now _ read (at_same (λ ds. definition_parts (definitions_list ds)) new old _ _ c.deref-in-Labels.ensures.value h)) c.note_definitions.ensures
+    carry c.note_definitions.result new old old (definition_parts (definitions_list c.deref.result.now)) (node_parts (core_of c.args.core.now))
+    (λ h. by_node old new c.args.core.now _ read (at_same (λ ds. definition_parts (definitions_list ds)) new old _ _ c.deref.ensures.value h)) c.note_definitions.ensures
 
 pub returns-in-Tagbody : goal.returns-in-Tagbody
 returns-in-Tagbody c =
