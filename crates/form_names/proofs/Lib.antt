@@ -1,3 +1,9 @@
 -- The lemmas of this crate.
 pub mod Found
 pub mod NodeParts
+pub mod Looked
+pub mod Carried
+pub mod Told
+pub mod Numbered
+pub mod Locals
+pub mod Filled

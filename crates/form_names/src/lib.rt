@@ -2,8 +2,12 @@
 //! blocks, tags and local functions.
 #![tactic(auto)]
 
+mod laws;
+mod lists;
 mod names;
+mod numbered;
 mod parts;
 
+pub use laws::numbered_functions;
 pub use names::{FormNames, form_names, functions_in};
 pub use parts::{TagName, Text};

@@ -5,7 +5,9 @@ ghost use Rattle.core_form.specs.Facts.{functions_in as functions_of, has_number
 ghost use Rattle.form_names.specs.Names.{NamesOf};
 ghost use Rattle.form_names.specs.Read.{text_of};
 
-use crate::parts::{TagName, Text};
+use crate::lists::{blocks_in, extents_in, locals_in, tags_in, texts_in};
+use crate::numbered::{first_values, set_of};
+use crate::parts::{TagName, Text, walk};
 use core_form::Core;
 use lisp_base::SymId;
 use std::alloc::{AllocError, Global};
@@ -37,7 +39,9 @@ impl Model for FormNames {
 pub fn functions_in<'a>(alloc: Global, form: &'a Core) -> Result<Vec<Text<'a>>, AllocError>
     ensures { IfOk result (λ texts. map text_of texts.items ≡ functions_of (core_of form.now)) }
 {
-    Err(AllocError)
+    let mut parts = Vec::new(alloc);
+    walk(&mut parts, form)?;
+    texts_in(alloc, &parts)
 }
 
 /// What stands under the numbers of a form.
@@ -47,7 +51,18 @@ pub fn functions_in<'a>(alloc: Global, form: &'a Core) -> Result<Vec<Text<'a>>, 
 pub fn form_names(alloc: Global, form: &Core) -> Result<FormNames, AllocError>
     ensures { IfOk result (λ f. NamesOf f (core_of form.now)) }
 {
-    Err(AllocError)
+    let mut parts = Vec::new(alloc);
+    walk(&mut parts, form)?;
+    let extents = set_of(alloc, &extents_in(alloc, &parts)?)?;
+    let blocks = first_values(alloc, &blocks_in(alloc, &parts)?)?;
+    let tags = first_values(alloc, &tags_in(alloc, &parts)?)?;
+    let locals = first_values(alloc, &locals_in(alloc, &parts)?)?;
+    Ok(FormNames {
+        extents,
+        blocks,
+        tags,
+        locals,
+    })
 }
 
 impl FormNames {
