@@ -1,16 +1,12 @@
--- What a map or a set has after a number is put into it, and after many are.
-use Rattle.std.specs.Prelude.{◌≡◌, refl, ℕ, nat_eq, Bool, true, false, cond, ◌||◌, if◌then◌else◌, ◌==◌, List, [], ◌∷◌, Option, Some, None, option_map}
+-- What a map or a set has after a number is put into it.
+use Rattle.std.specs.Prelude.{◌≡◌, refl, ℕ, nat_eq, Bool, true, false, cond, ◌||◌, if◌then◌else◌, ◌==◌, List, [], ◌∷◌, Option, Some, None}
 use Rattle.std.specs.Option.{option_or, is_some}
 use Rattle.std.specs.List.{list_any}
 use Rattle.std.specs.Map.{lookup as found}
 use Rattle.std.specs.Cmp.{nat_eq_equiv}
 use Rattle.std.proofs.Common.{ap, sym, ◌∙◌, arith}
 use Rattle.std.proofs.lemmas.Bool.Decides.{nat_tests}
-use Rattle.lisp_base.specs.declared.values.SymId.{SymId}
-use Rattle.lisp_base.specs.declared.values.Val.TheVariants.{Sym}
-use Rattle.core_form.specs.Tree.{Core}
-use Rattle.core_form.specs.Facts.{has_number, lookup, at_nodes, extents, block_names, tag_texts, local_functions}
-use Rattle.form_names.specs.declared.parts.TagName.{TagName}
+use Rattle.core_form.specs.Facts.{has_number, lookup}
 use Rattle.form_names.proofs.Found.{found_same, has_same}
 
 same : (n m : ℕ) → (n == m) ≡ true → n ≡ m

@@ -4,6 +4,7 @@ pub mod NodeParts
 pub mod Looked
 pub mod Carried
 pub mod Told
-pub mod Numbered
+pub mod InOrder
 pub mod Locals
 pub mod Filled
+pub mod NamesTold

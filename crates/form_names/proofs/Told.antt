@@ -1,5 +1,5 @@
 -- What the parts of a form tell is what its functions and numbers are read from.
-use Rattle.std.specs.Prelude.{◌≡◌, refl, ℕ, List, [], ◌∷◌, ◌++◌, flat_map}
+use Rattle.std.specs.Prelude.{◌≡◌, refl, ℕ, Some, List, [], ◌∷◌, ◌++◌, flat_map}
 use Rattle.std.proofs.Common.{ap, ◌∙◌}
 use Rattle.lisp_base.specs.declared.values.SymId.{SymId}
 use Rattle.lisp_base.specs.declared.values.Val.{Val}

@@ -1,4 +1,4 @@
-use Rattle.form_names.proofs.Numbered.{in_order}
+use Rattle.form_names.proofs.InOrder.{in_order}
 use Rattle.form_names.proofs.Locals.{inside}
 use Rattle.core_form.specs.Facts.{functions_in}
 use Rattle.form_names.proofs.laws.numbered_functions.Goals as goal
