@@ -1,5 +1,5 @@
 -- What a map or set has under a number is what its list has there.
-use Rattle.std.specs.Prelude.{◌≡◌, refl, ℕ, nat_eq, Bool, ◌||◌, if◌then◌else◌, ◌==◌, List, [], ◌∷◌, Option, Some}
+use Rattle.std.specs.Prelude.{◌≡◌, refl, ℕ, nat_eq, ◌||◌, if◌then◌else◌, ◌==◌, List, [], ◌∷◌, Some}
 use Rattle.std.specs.List.{list_any}
 use Rattle.std.specs.Map.{lookup as found}
 use Rattle.std.proofs.Common.{ap}

@@ -1,7 +1,7 @@
 -- The local functions of a form are among its functions.
 use Rattle.std.specs.Prelude.{◌≡◌, ℕ, ◌==◌, List, [], ◌∷◌, ◌++◌, Option, Some, None}
 use Rattle.std.specs.List.{Contains}
-use Rattle.std.proofs.Common.{ap, sym, subst, ◌∙◌, ◌⊎◌, inl, inr}
+use Rattle.std.proofs.Common.{sym, subst, ◌∙◌, ◌⊎◌, inl, inr}
 use Rattle.std.proofs.lemmas.List.Elements.{Contains-append_left, Contains-append_right, Contains-push}
 use Rattle.lisp_base.specs.declared.values.Place.{Place}
 use Rattle.lisp_base.specs.declared.values.SymId.{SymId}
@@ -23,7 +23,7 @@ nothing fs = record { each = λ n t h. cc }
 both : {ds es : List (ℕ × FunctionText)} {fs gs : List FunctionText} → Inside ds fs → Inside es gs → Inside (ds ++ es) (fs ++ gs)
 both {ds = ds} {es = es} {fs = fs} {gs = gs} h k = record {
   each = λ n t e.
-    in_either (either_found (lookup n ds) (lookup n es) t (sym (lookup_append n ds es) ∙ e)) (λ here. Contains-append_left fs gs t (h.each n t here)) (λ later. Contains-append_right fs gs t (k.each n t later));
+      in_either (either_found (lookup n ds) (lookup n es) t (sym (lookup_append n ds es) ∙ e)) (λ here. Contains-append_left fs gs t (h.each n t here)) (λ later. Contains-append_right fs gs t (k.each n t later));
 }
 
 also : {ds es : List (ℕ × FunctionText)} {fs : List FunctionText} → Inside ds fs → Inside es fs → Inside (ds ++ es) fs

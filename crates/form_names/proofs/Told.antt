@@ -1,12 +1,11 @@
 -- What the parts of a form tell is what its functions and numbers are read from.
 use Rattle.std.specs.Prelude.{◌≡◌, refl, ℕ, Some, List, [], ◌∷◌, ◌++◌, flat_map}
 use Rattle.std.proofs.Common.{ap, ◌∙◌}
-use Rattle.lisp_base.specs.declared.values.SymId.{SymId}
 use Rattle.lisp_base.specs.declared.values.Val.{Val}
 use Rattle.lisp_base.specs.declared.values.Val.TheVariants.{Sym}
-use Rattle.core_form.specs.Tree.{Core, Labels, Block, Tagbody, Definitions, no_definition, define, Items, no_item, tag, step}
+use Rattle.core_form.specs.Tree.{Core, Labels, Tagbody, Definitions, no_definition, define, Items, no_item, tag, step}
 use Rattle.core_form.specs.Facts.{FunctionText, TagText, no_node, no_function, one_function, functions_in, at_nodes, extents, block_names, tag_texts, item_tags, local_functions, definitions_of, tagbody_number}
-use Rattle.form_names.specs.Parts.{Part, defines, tags, definition_parts, tag_parts, tagbody_parts, node_parts, function_parts, parts, function_of, extent_of, block_of, tag_of, local_of}
+use Rattle.form_names.specs.Parts.{Part, defines, tags, definition_parts, tag_parts, node_parts, function_parts, parts, function_of, extent_of, block_of, tag_of, local_of}
 use Rattle.form_names.proofs.Carried.{carried}
 use Rattle.form_names.proofs.Looked.{with_values, with_values_flat}
 

@@ -1,7 +1,6 @@
 -- What stands under the numbers of a form, as the code holds it. (This project's own.)
 use Rattle.std.specs.Prelude.{◌≡◌, ℕ, List, option_map}
 use Rattle.lisp_base.specs.declared.values.SymId.{SymId}
-use Rattle.lisp_base.specs.declared.values.Val.{Val}
 use Rattle.lisp_base.specs.declared.values.Val.TheVariants.{Sym}
 use Rattle.core_form.specs.Tree.{Core, Lambda, lambda}
 use Rattle.core_form.specs.Facts.{FunctionText, TagText, has_number, lookup, at_nodes, extents, block_names, tag_texts, local_functions}
