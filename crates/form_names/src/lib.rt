@@ -7,6 +7,8 @@ mod lists;
 mod names;
 mod numbered;
 mod parts;
+#[cfg(test)]
+mod tests;
 
 pub use laws::numbered_functions;
 pub use names::{FormNames, form_names, functions_in};
