@@ -1,5 +1,5 @@
 // What a form has under numbers, noted in one walk over it.
-ghost use Rattle.std.specs.Prelude.{◌≡◌, ◌++◌, ◌∷◌, [], OnOk, Some, None};
+ghost use Rattle.std.specs.Prelude.{◌≡◌, ◌++◌, ◌∷◌, [], OnOk};
 ghost use Rattle.core_form.specs.Reading.{core_of, cores_list, lambda_of};
 ghost use Rattle.core_form.specs.ListReading.{bindings_list, optionals_list, definitions_list, items_list};
 ghost use Rattle.core_form.specs.Facts.{tagbody_number, gather_all, gather_bindings, gather_optionals, gather_lambda, gather_definitions, gather_items};
