@@ -1,0 +1,5 @@
+-- The definitions of this crate.
+pub mod Names
+pub mod Parts
+pub mod Read
+pub mod Laws
