@@ -1,0 +1,76 @@
+-- What is so of each sample, which is no integer.
+use Rattle.std.specs.Prelude.{◌≡◌, refl, ℕ, ◌+◌, Bool, true, false, not, ◌&&◌, ◌==◌, if◌then◌else◌, List, [], ◌∷◌, ◌++◌, map, flat_map, Option, Some}
+use Rattle.std.specs.List.{list_all}
+use Rattle.std.proofs.Common.{ap, sym, ◌∙◌, arith}
+use Rattle.std.proofs.lemmas.Bool.{eq-eqb, eqb-true, false≢true}
+use Rattle.std.proofs.lemmas.List.Folds.{list_all-append}
+use Rattle.lisp_base.specs.declared.types.Bound.{Bound}
+use Rattle.lisp_base.specs.declared.types.TypeSpec.{TypeSpec}
+use Rattle.lisp_base.specs.declared.values.Val.{Val}
+use Rattle.lisp_base.specs.declared.values.Val.TheVariants.{Char}
+use Rattle.lisp_base.specs.declared.values.SymKind.{SymKind}
+use Rattle.lisp_base.specs.declared.values.SymKind.TheVariants as symbol_kinds
+use Rattle.lisp_base.specs.Reading.{spec_of}
+use Rattle.lisp_base.specs.Laws.{specs_list}
+use Rattle.lisp_base.specs.Spec.{Spec, Specs, spec, And}
+use Rattle.lisp_base.specs.Membership.{SymbolKind, in_range, is_integer, has_all}
+use Rattle.core_form.specs.Facts.{together, is_within_integers, samples, sample_symbols, all_items_named, greatest_letter, greatest_symbol, not_integer}
+use Rattle.form_facts.specs.declared.samples.Sample.{Sample}
+use Rattle.form_facts.specs.declared.samples.Sample.TheVariants as sample
+use Rattle.form_facts.specs.Samples.{value_of, other_symbol, lacks_all, within_integers}
+
+pub none_in_range : (lo hi : Bound) (g : ℕ) (s : Sample) → in_range lo hi (value_of g s) ≡ false
+none_in_range lo hi g sample.Cons = refl
+none_in_range lo hi g sample.Vector = refl
+none_in_range lo hi g sample.Text = refl
+none_in_range lo hi g sample.Function = refl
+none_in_range lo hi g (sample.Letter c) = refl
+none_in_range lo hi g (sample.Named n) = refl
+none_in_range lo hi g (sample.Other kind) = refl
+
+pub no_integer : (g : ℕ) (s : Sample) → is_integer (value_of g s) ≡ false
+no_integer g sample.Cons = refl
+no_integer g sample.Vector = refl
+no_integer g sample.Text = refl
+no_integer g sample.Function = refl
+no_integer g (sample.Letter c) = refl
+no_integer g (sample.Named n) = refl
+no_integer g (sample.Other kind) = refl
+
+-- ---- the three symbols above those that are named
+
+taken : {A : Type 0} (b : Bool) (x y : A) → b ≡ true → (if b then x else y) ≡ x
+taken b x y h = ap (λ (c : Bool). if c then x else y) h
+
+passed : {A : Type 0} (b : Bool) (x y : A) → b ≡ false → (if b then x else y) ≡ y
+passed b x y h = ap (λ (c : Bool). if c then x else y) h
+
+apart : (a b : ℕ) (c : Bool) → (a == b) ≡ c → (a ≡ b → ⊥) → c ≡ false
+apart a b true h k = absurd (k (eqb-true a b h))
+apart a b false h k = refl
+
+pub other_kind : (g : ℕ) (kinds : SymbolKind) (kind : SymKind) → sample_symbols g kinds (other_symbol g kind) ≡ Some kind
+other_kind g kinds symbol_kinds.Plain = taken (g + 1 == g + 1) _ _ (eq-eqb (g + 1) (g + 1) refl)
+other_kind g kinds symbol_kinds.Keyword =
+    passed (g + 2 == g + 1) _ _ (apart (g + 2) (g + 1) (g + 2 == g + 1) refl (λ e. omega arith)) ∙ taken (g + 2 == g + 2) _ _ (eq-eqb (g + 2) (g + 2) refl)
+other_kind g kinds symbol_kinds.Fresh =
+    passed (g + 3 == g + 1) _ _ (apart (g + 3) (g + 1) (g + 3 == g + 1) refl (λ e. omega arith))
+    ∙ passed (g + 3 == g + 2) _ _ (apart (g + 3) (g + 2) (g + 3 == g + 2) refl (λ e. omega arith))
+    ∙ taken (g + 3 == g + 3) _ _ (eq-eqb (g + 3) (g + 3) refl)
+
+-- ---- all samples
+
+abbrev pub first_samples : (letter : ℕ) → List Sample
+first_samples letter =
+    sample.Cons ∷ sample.Vector ∷ sample.Text ∷ sample.Function ∷ sample.Letter letter ∷ sample.Named 0 ∷ sample.Named 1 ∷ sample.Other symbol_kinds.Plain ∷ sample.Other symbol_kinds.Keyword ∷ sample.Other symbol_kinds.Fresh ∷ []
+
+pub samples_are : (named : List Val) → map (value_of (greatest_symbol named)) (first_samples (greatest_letter named + 1)) ++ flat_map not_integer named ≡ samples named
+samples_are named = refl
+
+pub lacks_both : (g : ℕ) (kinds : SymbolKind) (ts : Specs) (xs ys : List Val) → lacks_all g kinds ts (xs ++ ys) ≡ (lacks_all g kinds ts xs && lacks_all g kinds ts ys)
+lacks_both g kinds ts xs ys = list_all-append _ xs ys
+
+-- the types of a variable, all together
+pub together_are : (ts : List TypeSpec) → specs_list ts ≡ together (map spec_of ts)
+together_are [] = refl
+together_are (t ∷ ts) = ap (λ (us : Specs). spec (spec_of t) us) (together_are ts)
