@@ -12,6 +12,8 @@ mod numbers;
 mod parameters;
 mod parts;
 mod samples;
+#[cfg(test)]
+mod tests;
 mod words;
 
 pub use facts::{FormFacts, form_facts};
