@@ -11,8 +11,8 @@ use Rattle.form_facts.specs.Parts.{Part, parts, set_by, left_by}
 use Rattle.form_facts.specs.Lists.{tags_in, locals_in, local_lists, closed_of_parts, joined}
 use Rattle.form_facts.specs.Words.{settled_words}
 use Rattle.form_facts.proofs.Closed.{closed_are, tags_in_are}
-use Rattle.form_facts.proofs.Cells.{has_once, has_changed, filter_same}
-use Rattle.form_facts.proofs.Words.{words_are}
+use Rattle.form_facts.proofs.NumberLaws.{has_once, has_changed, filter_same}
+use Rattle.form_facts.proofs.WordRounds.{words_are}
 
 joined_map : {A : Type 0} (f : A → List ℕ) (xs : List A) → joined (map f xs) ≡ flat_map f xs
 joined_map f [] = refl
@@ -43,13 +43,13 @@ known t start kinds f ps tags locals lists all changed p tags_h locals_h lists_h
     let everywhere : all ≡ closed_somewhere e = all_closed e f.closed all closed all_h in
     record {
       cells = λ n.
-        ap (has_number n) cells_h ∙ has_once n (filter (λ x. has_number x changed) all)
-        ∙ ap (λ (xs : List ℕ). has_number n (filter (λ x. has_number x changed) xs)) everywhere
-        ∙ ap (has_number n) (filter_same (λ x. has_number x changed) (λ x. has_number x (changed_somewhere e)) (all_changed e ps tags changed p tags_h changed_h) (closed_somewhere e));
+          ap (has_number n) cells_h ∙ has_once n (filter (λ x. has_number x changed) all)
+          ∙ ap (λ (xs : List ℕ). has_number n (filter (λ x. has_number x changed) xs)) everywhere
+          ∙ ap (has_number n) (filter_same (λ x. has_number x changed) (λ x. has_number x (changed_somewhere e)) (all_changed e ps tags changed p tags_h changed_h) (closed_somewhere e));
       words = λ n.
-        ap (has_number n) words_h ∙ has_once n (settled_words kinds all ps)
-        ∙ ap (λ (qs : List Part). has_number n (settled_words kinds all qs)) p
-        ∙ ap (λ (xs : List ℕ). has_number n (settled_words kinds xs (parts e))) everywhere
-        ∙ ap (has_number n) (words_are kinds (closed_somewhere e) e);
+          ap (has_number n) words_h ∙ has_once n (settled_words kinds all ps)
+          ∙ ap (λ (qs : List Part). has_number n (settled_words kinds all qs)) p
+          ∙ ap (λ (xs : List ℕ). has_number n (settled_words kinds xs (parts e))) everywhere
+          ∙ ap (has_number n) (words_are kinds (closed_somewhere e) e);
       closed = closed;
     }

@@ -2,7 +2,7 @@
 pub mod NodeParts
 pub mod Gathered
 pub mod Closed
-pub mod Cells
-pub mod Words
-pub mod Samples
+pub mod NumberLaws
+pub mod WordRounds
+pub mod SampleLaws
 pub mod Known

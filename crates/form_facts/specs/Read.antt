@@ -1,5 +1,6 @@
 -- How what a walk over a form notes is read. (This project's own.)
-use Rattle.std.specs.Prelude.{List, map, Bor}
+use Rattle.std.specs.Prelude.{List, map}
+use Rattle.std.specs.Borrow.{Bor}
 use Rattle.core_form.specs.declared.tree.Parameter.{Parameter as Parameter'}
 use Rattle.core_form.specs.Tree.{Parameter}
 use Rattle.core_form.specs.Reading.{core_of, cores_list, lambda_of, parameter_of}

@@ -30,11 +30,7 @@ fn left(part: Part<'_>, tags: &[Tag]) -> Option<u32>
     match part {
         Part::Leave(block) => Some(block),
         Part::Go(tag) => tagbody_of(tags, tag),
-        Part::Read(_)
-        | Part::Set(_, _)
-        | Part::Bind(_)
-        | Part::Compute(_)
-        | Part::Make(_) => None,
+        Part::Read(_) | Part::Set(_, _) | Part::Bind(_) | Part::Compute(_) | Part::Make(_) => None,
     }
 }
 
@@ -68,11 +64,7 @@ fn left_in(alloc: Global, parts: &[Part<'_>], tags: &[Tag]) -> Result<Vec<u32>, 
 ///
 /// # Errors
 /// Want of memory alone.
-pub fn changed_in(
-    alloc: Global,
-    parts: &[Part<'_>],
-    tags: &[Tag],
-) -> Result<Numbers, AllocError>
+pub fn changed_in(alloc: Global, parts: &[Part<'_>], tags: &[Tag]) -> Result<Numbers, AllocError>
     ensures { IfOk result (λ changed. changed ≡ union (union [] (flat_map set_by (parts_list parts.now))) (flat_map (left_by (tags_list tags.now)) (parts_list parts.now))) }
 {
     let mut changed = Numbers::of(alloc, &set_in(alloc, parts)?)?;

@@ -37,11 +37,7 @@ impl Model for FormFacts {
 ///
 /// # Errors
 /// Want of memory alone.
-pub fn form_facts(
-    alloc: Global,
-    form: &TopForm,
-    symbols: &SymTab,
-) -> Result<FormFacts, AllocError>
+pub fn form_facts(alloc: Global, form: &TopForm, symbols: &SymTab) -> Result<FormFacts, AllocError>
     ensures { IfOk result (λ f. (start : ℕ) → Knows f (facts_of (kinds_of symbols.now) start (top_of form.now)) (functions_in (core_of form.now.core))) }
 {
     let parts = parts_in(alloc, &form.core)?;

@@ -1,11 +1,11 @@
 // The closed variables of functions, round by round.
 ghost use Rattle.std.specs.Prelude.{◌≡◌, [], true, OnOk, IfOk};
-ghost use Rattle.core_form.specs.Facts.{union, without};
+ghost use Rattle.core_form.specs.Facts.{union};
 ghost use Rattle.closed_copies.specs.Walked.{entry_of, entries_list};
 ghost use Rattle.form_facts.specs.View.{list_at, lists_of};
 ghost use Rattle.form_facts.specs.Lists.{lists_at, closed_from, one_round, rounds as rounds_of, none_closed, joined};
 
-use crate::numbers::Numbers;
+use crate::numbers::{Numbers, others_of};
 use closed_copies::functions::Function;
 use std::alloc::{AllocError, Global};
 
@@ -20,33 +20,13 @@ pub fn list_at(lists: &[Vec<u32>], place: usize) -> &[u32]
 }
 
 /// Adds the numbers of the lists at these places.
-fn unite_at(
-    all: &mut Numbers,
-    lists: &[Vec<u32>],
-    places: &[usize],
-) -> Result<(), AllocError>
+fn unite_at(all: &mut Numbers, lists: &[Vec<u32>], places: &[usize]) -> Result<(), AllocError>
     ensures { OnOk result (all.new ≡ union all.old (lists_at (lists_of lists.now) places.now)) }
 {
     for place in places {
         all.unite(list_at(lists, *place))?;
     }
     Ok(())
-}
-
-/// Those of some numbers that are not among others.
-///
-/// # Errors
-/// Want of memory alone.
-pub fn others_of(alloc: Global, numbers: &[u32], among: &Numbers) -> Result<Vec<u32>, AllocError>
-    ensures { IfOk result (λ others. others.items ≡ without numbers.now among.now) }
-{
-    let mut others = Vec::new(alloc);
-    for number in numbers {
-        if !among.has(*number) {
-            others.push(*number)?;
-        }
-    }
-    Ok(others)
 }
 
 /// The closed variables of a function, from those of the local functions one round before.
@@ -109,11 +89,7 @@ fn are_same(ones: &[Vec<u32>], others: &[Vec<u32>]) -> bool
 }
 
 /// The lists after so many rounds. A round that changes nothing is the last.
-pub fn settle(
-    alloc: Global,
-    rounds: usize,
-    table: &[Function],
-) -> Result<Vec<Vec<u32>>, AllocError>
+pub fn settle(alloc: Global, rounds: usize, table: &[Function]) -> Result<Vec<Vec<u32>>, AllocError>
     ensures { IfOk result (λ lists. lists_of lists.items ≡ rounds_of rounds (entries_list table.now) (none_closed (entries_list table.now))) }
 {
     let mut lists = no_lists(alloc, table)?;

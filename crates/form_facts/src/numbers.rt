@@ -1,6 +1,6 @@
 // Numbers, each once.
 ghost use Rattle.std.specs.Prelude.{◌≡◌, ◌∷◌, [], OnOk, IfOk};
-ghost use Rattle.core_form.specs.Facts.{has_number, union};
+ghost use Rattle.core_form.specs.Facts.{has_number, union, without};
 
 use indexmap::IndexSet;
 use std::alloc::{AllocError, Global};
@@ -79,4 +79,20 @@ impl Numbers {
     {
         self.set.as_slice()
     }
+}
+
+/// Those of some numbers that are not among others.
+///
+/// # Errors
+/// Want of memory alone.
+pub fn others_of(alloc: Global, numbers: &[u32], among: &Numbers) -> Result<Vec<u32>, AllocError>
+    ensures { IfOk result (λ others. others.items ≡ without numbers.now among.now) }
+{
+    let mut others = Vec::new(alloc);
+    for number in numbers {
+        if !among.has(*number) {
+            others.push(*number)?;
+        }
+    }
+    Ok(others)
 }

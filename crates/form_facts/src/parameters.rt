@@ -81,11 +81,7 @@ fn note_part<'a>(noted: &mut Vec<&'a Parameter>, part: Part<'a>) -> Result<(), A
     match part {
         Part::Bind(bindings) => note_bindings(noted, bindings),
         Part::Make(lambda) => note_lambda(noted, lambda),
-        Part::Read(_)
-        | Part::Set(_, _)
-        | Part::Leave(_)
-        | Part::Go(_)
-        | Part::Compute(_) => Ok(()),
+        Part::Read(_) | Part::Set(_, _) | Part::Leave(_) | Part::Go(_) | Part::Compute(_) => Ok(()),
     }
 }
 

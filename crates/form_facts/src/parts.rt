@@ -7,7 +7,9 @@ ghost use Rattle.core_form.specs.Arithmetic.{arithmetic};
 ghost use Rattle.form_facts.specs.Parts.{node_parts, function_parts, operand_parts, lambda_parts, parts as parts_of};
 ghost use Rattle.form_facts.specs.Read.{part_of, parts_list};
 
-use core_form::{Binding, Core, Definition, Form, Item, Lambda, Optional, reads_lists, reads_nodes};
+use core_form::{
+    Binding, Core, Definition, Form, Item, Lambda, Optional, reads_lists, reads_nodes,
+};
 use lisp_base::Primitive;
 use std::alloc::{AllocError, Global};
 

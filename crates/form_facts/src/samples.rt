@@ -46,7 +46,8 @@ fn is_symbol_of(sample: Sample, number: u32, greatest: u32) -> bool
     match sample {
         Sample::Named(named) => named == number,
         Sample::Other(kind) => other_number(kind, greatest) == number as u64,
-        Sample::Cons | Sample::Vector | Sample::Text | Sample::Function | Sample::Letter(_) => false,
+        Sample::Cons | Sample::Vector | Sample::Text | Sample::Function | Sample::Letter(_) =>
+            false,
     }
 }
 
@@ -55,7 +56,8 @@ fn is_symbol_sample(sample: Sample) -> bool
 {
     match sample {
         Sample::Named(_) | Sample::Other(_) => true,
-        Sample::Cons | Sample::Vector | Sample::Text | Sample::Function | Sample::Letter(_) => false,
+        Sample::Cons | Sample::Vector | Sample::Text | Sample::Function | Sample::Letter(_) =>
+            false,
     }
 }
 
@@ -161,7 +163,8 @@ fn is_keyword_sample(sample: Sample, greatest: u32, symbols: &SymTab) -> bool
     match sample {
         Sample::Named(number) => is_keyword_kind(kind_at(number, greatest, symbols)),
         Sample::Other(kind) => is_keyword_kind(Some(kind)),
-        Sample::Cons | Sample::Vector | Sample::Text | Sample::Function | Sample::Letter(_) => false,
+        Sample::Cons | Sample::Vector | Sample::Text | Sample::Function | Sample::Letter(_) =>
+            false,
     }
 }
 
@@ -221,7 +224,8 @@ fn symbol_is(id: SymId, sample: Sample, greatest: u32) -> bool
     match sample {
         Sample::Named(number) => id.0 == number,
         Sample::Other(kind) => id.0 as u64 == other_number(kind, greatest),
-        Sample::Cons | Sample::Vector | Sample::Text | Sample::Function | Sample::Letter(_) => false,
+        Sample::Cons | Sample::Vector | Sample::Text | Sample::Function | Sample::Letter(_) =>
+            false,
     }
 }
 
@@ -295,10 +299,8 @@ fn holds(spec: &TypeSpec, sample: Sample, greatest: u32, symbols: &SymTab) -> bo
     reads_specs();
     match spec {
         TypeSpec::Named(name) => has_name(*name, sample, greatest, symbols),
-        TypeSpec::Integer { .. }
-        | TypeSpec::Signed(_)
-        | TypeSpec::Unsigned(_)
-        | TypeSpec::Mod(_) => false,
+        TypeSpec::Integer { .. } | TypeSpec::Signed(_) | TypeSpec::Unsigned(_) | TypeSpec::Mod(_) =>
+            false,
         TypeSpec::Member(items) => is_among(items, sample, greatest),
         TypeSpec::Eql(item) => item_is(*item, sample, greatest),
         TypeSpec::And(types) => all_hold(types, sample, greatest, symbols),

@@ -8,8 +8,7 @@ ghost use Rattle.form_facts.specs.Read.{part_of, parts_list, those_parameters};
 ghost use Rattle.form_facts.specs.Words.{kinds_of, taken_in as taken_of, kept_words, next_words, declared_of, settled_words};
 
 use crate::counts::Counts;
-use crate::lists::others_of;
-use crate::numbers::Numbers;
+use crate::numbers::{Numbers, others_of};
 use crate::parameters::parameters_in;
 use crate::parts::Part;
 use crate::samples::is_within_integers;
@@ -89,11 +88,7 @@ fn note_all_under(numbers: &mut Vec<u32>, cores: &[Core]) -> Result<(), AllocErr
 }
 
 /// Notes the references that a part takes as words, where these are the word variables.
-fn note_taken(
-    numbers: &mut Vec<u32>,
-    part: Part<'_>,
-    words: &Numbers,
-) -> Result<(), AllocError>
+fn note_taken(numbers: &mut Vec<u32>, part: Part<'_>, words: &Numbers) -> Result<(), AllocError>
     ensures { OnOk result (numbers.new.items ≡ numbers.old.items ++ taken_by words.now (part_of part.entry)) }
 {
     match part {
@@ -109,11 +104,7 @@ fn note_taken(
     }
 }
 
-fn taken_in(
-    alloc: Global,
-    parts: &[Part<'_>],
-    words: &Numbers,
-) -> Result<Vec<u32>, AllocError>
+fn taken_in(alloc: Global, parts: &[Part<'_>], words: &Numbers) -> Result<Vec<u32>, AllocError>
     ensures { IfOk result (λ numbers. numbers.items ≡ taken_of words.now (parts_list parts.now)) }
 {
     let mut numbers = Vec::new(alloc);

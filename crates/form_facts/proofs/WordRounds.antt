@@ -7,7 +7,7 @@ use Rattle.core_form.specs.Facts.{has_number, union, without, times_in, repeat, 
 use Rattle.form_facts.specs.Parts.{Part, sets, parts, read_by, bound_by, taken_by}
 use Rattle.form_facts.specs.Words.{taken_in, kept_words, next_words, declared_of, open_words, settled_words}
 use Rattle.form_facts.proofs.Gathered.{reads_are, bound_are, taken_are}
-use Rattle.form_facts.proofs.Cells.{has_once}
+use Rattle.form_facts.proofs.NumberLaws.{has_once}
 
 -- ---- words once are the same words
 
