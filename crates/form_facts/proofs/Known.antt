@@ -11,7 +11,8 @@ use Rattle.form_facts.specs.Parts.{Part, parts, set_by, left_by}
 use Rattle.form_facts.specs.Lists.{tags_in, locals_in, local_lists, closed_of_parts, joined}
 use Rattle.form_facts.specs.Words.{settled_words}
 use Rattle.form_facts.proofs.Closed.{closed_are, tags_in_are}
-use Rattle.form_facts.proofs.NumberLaws.{has_once, has_changed, filter_same}
+use Rattle.form_facts.proofs.NumberLaws.{has_once, has_changed}
+use Rattle.form_facts.proofs.NumberSets.{filter_same}
 use Rattle.form_facts.proofs.WordRounds.{words_are}
 
 joined_map : {A : Type 0} (f : A → List ℕ) (xs : List A) → joined (map f xs) ≡ flat_map f xs

@@ -2,6 +2,7 @@
 pub mod NodeParts
 pub mod Gathered
 pub mod Closed
+pub mod NumberSets
 pub mod NumberLaws
 pub mod WordRounds
 pub mod SampleLaws

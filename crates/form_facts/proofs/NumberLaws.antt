@@ -6,6 +6,7 @@ use Rattle.core_form.specs.Facts.{TagText, has_number, union, without, at_nodes,
 use Rattle.closed_copies.proofs.Sets.{has_append, has_union, has_filter}
 use Rattle.closed_copies.proofs.Told.{pairs}
 use Rattle.form_facts.specs.Parts.{parts, set_by, left_by}
+use Rattle.form_facts.proofs.NumberSets.{filter_same}
 use Rattle.form_facts.proofs.Gathered.{sets_are, left_are}
 
 -- ---- unions one after another
@@ -23,13 +24,6 @@ union_append xs (y ∷ ys) zs = united_or (has_number y xs) xs y ys zs (union_ap
 
 pub has_once : (n : ℕ) (xs : List ℕ) → has_number n (union [] xs) ≡ has_number n xs
 has_once n xs = has_union n [] xs
-
-filter_or : (b c : Bool) (x : ℕ) (xs ys : List ℕ) → b ≡ c → xs ≡ ys → cond b (x ∷ xs) xs ≡ cond c (x ∷ ys) ys
-filter_or b c x xs ys h k = ap (λ (d : Bool). cond d (x ∷ xs) xs) h ∙ ap (λ (zs : List ℕ). cond c (x ∷ zs) zs) k
-
-pub filter_same : (p q : ℕ → Bool) → ((n : ℕ) → p n ≡ q n) → (xs : List ℕ) → filter p xs ≡ filter q xs
-filter_same p q h [] = refl
-filter_same p q h (x ∷ xs) = filter_or (p x) (q x) x (filter p xs) (filter q xs) (h x) (filter_same p q h xs)
 
 pub without_once : (xs ys : List ℕ) → without xs (union [] ys) ≡ without xs ys
 without_once xs ys = filter_same (λ x. not (has_number x (union [] ys))) (λ x. not (has_number x ys)) (λ x. ap not (has_once x ys)) xs

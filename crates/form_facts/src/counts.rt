@@ -1,5 +1,5 @@
 // How often numbers stand in a list.
-ghost use Rattle.std.specs.Prelude.{◌≡◌, ℕ, nat_eq, unwrap_or, IfOk};
+ghost use Rattle.std.specs.Prelude.{◌≡◌, ◌==◌, ℕ, count_by, nat_eq, unwrap_or, IfOk};
 ghost use Rattle.std.specs.HashMap.{get};
 ghost use Rattle.core_form.specs.Facts.{times_in};
 
@@ -15,19 +15,18 @@ pub struct Counts {
 }
 
 impl Model for Counts {
-    ghost use Rattle.std.specs.Prelude.{ℕ, List, ◌≡◌, nat_eq, unwrap_or};
+    ghost use Rattle.std.specs.Prelude.{ℕ, List, ◌≡◌, ◌==◌, count_by, nat_eq, unwrap_or};
     ghost use Rattle.std.specs.HashMap.{get};
-    ghost use Rattle.core_form.specs.Facts.{times_in};
 
     ghost Value = { List ℕ };
 
     ghost view = { λ c. c.numbers.items };
 
-    ghost invariant = { λ c. (n : ℕ) → unwrap_or (get nat_eq c.counts n) 0 ≡ times_in n c.numbers.items };
+    ghost invariant = { λ c. (n : ℕ) → unwrap_or (get nat_eq c.counts n) 0 ≡ count_by (λ x. x == n) c.numbers.items };
 }
 
 fn count(alloc: Global, numbers: &[u32]) -> Result<HashMap<u32, u64>, AllocError>
-    ensures { IfOk result (λ counts. (n : ℕ) → unwrap_or (get nat_eq counts n) 0 ≡ times_in n numbers.now) }
+    ensures { IfOk result (λ counts. (n : ℕ) → unwrap_or (get nat_eq counts n) 0 ≡ count_by (λ x. x == n) numbers.now) }
 {
     let mut counts = HashMap::new(alloc);
     for number in numbers {
