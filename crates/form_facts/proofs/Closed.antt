@@ -15,6 +15,7 @@ use Rattle.form_facts.specs.View.{list_at}
 use Rattle.form_facts.specs.Parts.{parts}
 use Rattle.form_facts.specs.Lists.{lists_at, closed_from, one_round, rounds, none_closed, tags_in, locals_in, local_table, local_lists, closed_of_lambda, closed_of_parts}
 use Rattle.form_facts.proofs.Gathered.{made_are}
+use Rattle.form_facts.proofs.NumberLaws.{without_once}
 
 -- ---- the list at a place is that of the function of a number
 
@@ -139,6 +140,16 @@ closed_are e tags locals lists t l h =
     ∙ ap (λ ks. closed_of_parts (pairs ns.tags) ks lists (parts e)) (l ∙ locals_in_are e)
     ∙ ap (λ ls. closed_of_parts (pairs ns.tags) (numbers_of ns.functions) ls (parts e)) (h ∙ local_lists_are e)
     ∙ made_are (closed_of_lambda (pairs ns.tags) (numbers_of ns.functions) (local_closed (length ns.functions) ns)) (closed_in ns) (closed_at_last ns) e
+
+-- ---- for the code
+
+-- what comes of these lists is what a function closes over
+pub closed_by : (lists : List (List ℕ)) (f : Entry) (numbers all first among rs cs bs : List ℕ) → numbers ≡ all → all ≡ union first (lists_at lists cs) → first ≡ union [] rs → among ≡ union [] bs →
+    rs ≡ f.refers → cs ≡ f.calls → bs ≡ f.inner → without numbers among ≡ closed_from lists f
+closed_by lists f numbers all first among rs cs bs n a h b refers called bound =
+    ap (λ (xs : List ℕ). without xs among) (n ∙ a ∙ ap (λ (xs : List ℕ). union xs (lists_at lists cs)) (h ∙ ap (union []) refers) ∙ ap (λ (xs : List ℕ). union (union [] f.refers) (lists_at lists xs)) called)
+    ∙ ap (without (union (union [] f.refers) (lists_at lists f.calls))) (b ∙ ap (union []) bound)
+    ∙ without_once (union (union [] f.refers) (lists_at lists f.calls)) f.inner
 
 -- ---- the loop over the rounds
 

@@ -16,10 +16,6 @@ told : {B : Type 0} (f : Part → List B) (es : Cores) (bs : List B) (b : Bool) 
 told f es bs true h = append-nil (f (computes es)) ∙ h
 told f es bs false h = refl
 
-either_none : {B : Type 0} (b : Bool) → (if b then [] {A = B} else []) ≡ []
-either_none true = refl
-either_none false = refl
-
 untold : {B : Type 0} (f : Part → List B) (es : Cores) (b : Bool) → f (computes es) ≡ [] → flat_map f (if b then computes es ∷ [] else []) ≡ []
 untold f es true h = append-nil (f (computes es)) ∙ h
 untold f es false h = refl

@@ -1,6 +1,7 @@
 -- What is said of numbers in unions and of what is filtered by them.
-use Rattle.std.specs.Prelude.{◌≡◌, refl, ℕ, Bool, true, false, not, ◌&&◌, ◌||◌, ◌==◌, if◌then◌else◌, List, [], ◌∷◌, ◌++◌, flat_map, filter}
-use Rattle.std.proofs.Common.{ap, sym, ◌∙◌, cond}
+use Rattle.std.specs.Prelude.{◌≡◌, refl, ℕ, ◌+◌, ◌<◌, Bool, true, false, not, ◌&&◌, ◌||◌, ◌==◌, if◌then◌else◌, List, [], ◌∷◌, ◌++◌, length, flat_map, filter}
+use Rattle.std.proofs.Common.{ap, sym, ◌∙◌, get_or, drop}
+use Rattle.std.proofs.lemmas.List.{at_drop_more}
 use Rattle.core_form.specs.Tree.{Core}
 use Rattle.core_form.specs.Facts.{TagText, has_number, union, without, at_nodes, variables_set, extents_left, changed_somewhere, tag_texts}
 use Rattle.closed_copies.proofs.Sets.{has_append, has_union, has_filter}
@@ -19,6 +20,14 @@ united_or false xs y ys zs h k = k
 pub union_append : (xs ys zs : List ℕ) → union (union xs ys) zs ≡ union xs (ys ++ zs)
 union_append xs [] zs = refl
 union_append xs (y ∷ ys) zs = united_or (has_number y xs) xs y ys zs (union_append xs ys zs) (union_append (xs ++ y ∷ []) ys zs)
+
+-- the loop's step, where what each element gives is united
+pub unite_next : {A : Type 0} (f : A → List ℕ) (F : List A → List ℕ) → ((x : A) (xs : List A) → F (x ∷ xs) ≡ f x ++ F xs) → (all new goal : List ℕ) (xs : List A) (i : ℕ) (d x : A) → i < length xs → x ≡ get_or xs i d →
+    new ≡ union all (f x) → union all (F (drop i xs)) ≡ goal → union new (F (drop (i + 1) xs)) ≡ goal
+unite_next {A} f F cons all new goal xs i d x lt e h so_far =
+    let rest : List ℕ = F (drop (i + 1) xs) in
+    ap (λ (ys : List ℕ). union ys rest) h ∙ union_append all (f x) rest ∙ ap (λ (y : A). union all (f y ++ rest)) e
+    ∙ sym (ap (union all) (at_drop_more F xs i d lt ∙ cons (get_or xs i d) (drop (i + 1) xs))) ∙ so_far
 
 -- ---- numbers once are the same numbers
 

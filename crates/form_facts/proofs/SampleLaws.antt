@@ -1,5 +1,5 @@
 -- What is so of each sample, which is no integer.
-use Rattle.std.specs.Prelude.{◌≡◌, refl, ℕ, ◌+◌, Bool, true, false, not, ◌&&◌, ◌==◌, if◌then◌else◌, List, [], ◌∷◌, ◌++◌, map, flat_map, Option, Some}
+use Rattle.std.specs.Prelude.{◌≡◌, refl, ℕ, ◌+◌, ◌≤◌, Bool, true, false, not, ◌&&◌, ◌==◌, if◌then◌else◌, List, [], ◌∷◌, ◌++◌, map, flat_map, Option, Some}
 use Rattle.std.specs.List.{list_all}
 use Rattle.std.proofs.Common.{ap, sym, ◌∙◌, arith}
 use Rattle.std.proofs.lemmas.Bool.{eq-eqb, eqb-true, false≢true}
@@ -7,7 +7,7 @@ use Rattle.std.proofs.lemmas.List.Folds.{list_all-append}
 use Rattle.lisp_base.specs.declared.types.Bound.{Bound}
 use Rattle.lisp_base.specs.declared.types.TypeSpec.{TypeSpec}
 use Rattle.lisp_base.specs.declared.values.Val.{Val}
-use Rattle.lisp_base.specs.declared.values.Val.TheVariants.{Char}
+use Rattle.lisp_base.specs.declared.values.Val.TheVariants.{Int, Char, Sym, Ref}
 use Rattle.lisp_base.specs.declared.values.SymKind.{SymKind}
 use Rattle.lisp_base.specs.declared.values.SymKind.TheVariants as symbol_kinds
 use Rattle.lisp_base.specs.Reading.{spec_of}
@@ -69,6 +69,13 @@ samples_are named = refl
 
 pub lacks_both : (g : ℕ) (kinds : SymbolKind) (ts : Specs) (xs ys : List Val) → lacks_all g kinds ts (xs ++ ys) ≡ (lacks_all g kinds ts xs && lacks_all g kinds ts ys)
 lacks_both g kinds ts xs ys = list_all-append _ xs ys
+
+pub least_symbol : (vs : List Val) → 1 ≤ greatest_symbol vs
+least_symbol [] = omega arith
+least_symbol (Int z ∷ vs) = least_symbol vs
+least_symbol (Char c ∷ vs) = least_symbol vs
+least_symbol (Sym s ∷ vs) = let h = least_symbol vs in omega arith
+least_symbol (Ref o ∷ vs) = least_symbol vs
 
 -- the types of a variable, all together
 pub together_are : (ts : List TypeSpec) → specs_list ts ≡ together (map spec_of ts)
