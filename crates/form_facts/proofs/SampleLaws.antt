@@ -8,13 +8,18 @@ use Rattle.lisp_base.specs.declared.types.Bound.{Bound}
 use Rattle.lisp_base.specs.declared.types.TypeSpec.{TypeSpec}
 use Rattle.lisp_base.specs.declared.values.Val.{Val}
 use Rattle.lisp_base.specs.declared.values.Val.TheVariants.{Int, Char, Sym, Ref}
+use Rattle.lisp_base.specs.declared.values.SymId.{SymId}
 use Rattle.lisp_base.specs.declared.values.SymKind.{SymKind}
 use Rattle.lisp_base.specs.declared.values.SymKind.TheVariants as symbol_kinds
 use Rattle.lisp_base.specs.Reading.{spec_of}
 use Rattle.lisp_base.specs.Laws.{specs_list}
 use Rattle.lisp_base.specs.Spec.{Spec, Specs, spec, And}
 use Rattle.lisp_base.specs.Membership.{SymbolKind, in_range, is_integer, has_all}
-use Rattle.core_form.specs.Facts.{together, is_within_integers, samples, sample_symbols, all_items_named, greatest_letter, greatest_symbol, not_integer}
+use Rattle.core_form.specs.declared.tree.Parameter.{Parameter as Parameter'}
+use Rattle.core_form.specs.declared.tree.Variable.{Variable}
+use Rattle.core_form.specs.declared.tree.Variable.TheVariants.{Lexical}
+use Rattle.core_form.specs.Reading.{parameter_of}
+use Rattle.core_form.specs.Facts.{declared_integer, lexical_number, together, is_within_integers, samples, sample_symbols, all_items_named, greatest_letter, greatest_symbol, not_integer}
 use Rattle.form_facts.specs.declared.samples.Sample.{Sample}
 use Rattle.form_facts.specs.declared.samples.Sample.TheVariants as sample
 use Rattle.form_facts.specs.Samples.{value_of, other_symbol, lacks_all, within_integers}
@@ -81,3 +86,11 @@ least_symbol (Ref o ∷ vs) = least_symbol vs
 pub together_are : (ts : List TypeSpec) → specs_list ts ≡ together (map spec_of ts)
 together_are [] = refl
 together_are (t ∷ ts) = ap (λ (us : Specs). spec (spec_of t) us) (together_are ts)
+
+-- a variable of these types, of which this was found
+pub declared_are : (kinds : SymbolKind) (x : Parameter') (number : ℕ) (name : SymId) (types : List TypeSpec) (b : Bool) → x.variable ≡ Lexical number name → types ≡ x.types.items → b ≡ within_integers kinds (specs_list types) →
+    declared_integer kinds (parameter_of x) ≡ (if b then number ∷ [] else [])
+declared_are kinds x number name types b v t h =
+    let within : Bool = is_within_integers kinds (And (together (map spec_of x.types.items))) in
+    let same : b ≡ within = h ∙ ap (λ ts. within_integers kinds (specs_list ts)) t ∙ ap (within_integers kinds) (together_are x.types.items) in
+    ap (λ (y : Variable). if within then lexical_number y else []) v ∙ sym (ap (λ (c : Bool). if c then number ∷ [] else []) same)

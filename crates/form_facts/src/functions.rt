@@ -1,17 +1,17 @@
 // What the functions of a form close over.
 ghost use Rattle.std.specs.Prelude.{◌≡◌, OnOk, IfOk, flat_map};
-ghost use Rattle.core_form.specs.Reading.{core_of};
+ghost use Rattle.core_form.specs.Reading.{core_of, lambda_of};
 ghost use Rattle.closed_copies.specs.Table.{local_entry};
 ghost use Rattle.closed_copies.specs.Walked.{events_list, tags_list, entries_list};
 ghost use Rattle.form_facts.specs.View.{lists_of};
 ghost use Rattle.form_facts.specs.Read.{parts_list};
-ghost use Rattle.form_facts.specs.Lists.{tags_in as tags_of, locals_in as locals_of, local_lists, closed_of_parts};
+ghost use Rattle.form_facts.specs.Lists.{tags_in as tags_of, locals_in as locals_of, local_lists, closed_of_lambda, closed_of_parts};
 
 use crate::lists::{closed_with, settle};
 use crate::parts::Part;
 use closed_copies::functions::{Function, Tag, function_of, numbers_in, tags_in};
 use closed_copies::walk::{Event, walk};
-use core_form::Core;
+use core_form::{Core, Lambda};
 use std::alloc::{AllocError, Global};
 
 /// The local functions of a form.
@@ -65,6 +65,14 @@ pub fn locals_in(alloc: Global, core: &Core) -> Result<Locals, AllocError>
     })
 }
 
+/// What a function closes over.
+fn closed_of(alloc: Global, lambda: &Lambda, locals: &Locals) -> Result<Vec<u32>, AllocError>
+    ensures { IfOk result (λ closed. closed.items ≡ closed_of_lambda (tags_list locals.now.tags.items) locals.now.numbers.items (lists_of locals.now.lists.items) (lambda_of lambda.now)) }
+{
+    let function = function_of(alloc, lambda, &locals.tags, &locals.numbers)?;
+    closed_with(alloc, &function, &locals.lists)
+}
+
 /// What each function among these parts closes over, in their order.
 ///
 /// # Errors
@@ -79,8 +87,7 @@ pub fn closed_lists(
     let mut closed = Vec::new(alloc);
     for part in parts {
         if let Part::Make(lambda) = *part {
-            let function = function_of(alloc, lambda, &locals.tags, &locals.numbers)?;
-            closed.push(closed_with(alloc, &function, &locals.lists)?)?;
+            closed.push(closed_of(alloc, lambda, locals)?)?;
         }
     }
     Ok(closed)
