@@ -1,14 +1,14 @@
 -- The lists of a round are the closed variables to a depth.
-use Rattle.std.specs.Prelude.{◌≡◌, refl, ℕ, zero, suc, ◌+◌, ◌-◌, ◌<◌, Bool, true, false, ◌==◌, if◌then◌else◌, List, [], ◌∷◌, ◌++◌, length, Option, Some, None, flat_map, map}
+use Rattle.std.specs.Prelude.{◌≡◌, refl, ℕ, zero, suc, ◌+◌, ◌-◌, ◌<◌, Bool, true, false, ◌==◌, if◌then◌else◌, List, [], ◌∷◌, ◌++◌, length, Option, Some, flat_map, map}
 use Rattle.std.proofs.Common.{ap, sym, ◌∙◌, arith, append_assoc, append-nil, length-append}
 use Rattle.std.proofs.Math.Seq.{get_or-append_seam}
 use Rattle.std.proofs.lemmas.Option.{unwrap_or-slice_get}
 use Rattle.std.proofs.lemmas.List.{length-map}
 use Rattle.std.proofs.lemmas.List.Concat.{flat_map-append}
-use Rattle.core_form.specs.Tree.{Core, Lambda}
-use Rattle.core_form.specs.Facts.{FunctionText, Names, names_in, lookup, union, without, inner, on_local, in_function, referred, functions_used, extents, closed_to, closed_in, functions_in, parameter_number, gather_lambda, let_parameters, function_parameters}
+use Rattle.core_form.specs.Tree.{Core}
+use Rattle.core_form.specs.Facts.{FunctionText, Names, names_in, lookup, union, without, on_local, in_function, referred, functions_used, closed_to, closed_in, functions_in, parameter_number, gather_lambda, let_parameters, function_parameters}
 use Rattle.closed_copies.specs.Events.{Event, calls, defines, lambda_events, events}
-use Rattle.closed_copies.specs.Table.{Entry, as_list, place_from, called_of, bound_of, opened_of, entry, local_entry, tag_of, number_of}
+use Rattle.closed_copies.specs.Table.{Entry, as_list, place_from, called_of, opened_of, local_entry, number_of}
 use Rattle.closed_copies.proofs.Told.{pairs, call_of, refers_are, calls_are, bound_are, opened_are, local_of, locals_are, tags_are}
 use Rattle.closed_copies.proofs.Marked.{numbers_of, texts_of, entry_in}
 use Rattle.form_facts.specs.View.{list_at}

@@ -1,14 +1,14 @@
 -- What the parts of a form tell is what its facts are read from.
-use Rattle.std.specs.Prelude.{◌≡◌, refl, ℕ, Bool, true, false, if◌then◌else◌, ◌==◌, List, [], ◌∷◌, ◌++◌, Option, Some, None, flat_map, map}
+use Rattle.std.specs.Prelude.{◌≡◌, refl, ℕ, Bool, true, false, if◌then◌else◌, ◌==◌, List, [], ◌∷◌, Option, Some, flat_map, map}
 use Rattle.std.proofs.Common.{ap, sym, ◌∙◌, append-nil}
 use Rattle.std.proofs.lemmas.List.Concat.{flat_map_single}
-use Rattle.core_form.specs.Tree.{Core, Local, SetLocal, Let, Primitive, ReturnFrom, Go, Cores, Lambda, Parameter}
+use Rattle.core_form.specs.Tree.{Core, SetLocal, Let, Primitive, Go, Cores, Lambda}
 use Rattle.core_form.specs.Arithmetic.{arithmetic}
-use Rattle.core_form.specs.Facts.{FunctionText, TagText, lookup, has_number, gather, no_function, no_node, one_function, at_nodes, functions_in, parameters_in, let_parameters, function_parameters, binding_parameters, parameters_of, variables_read, variables_set, extents_left, tagbody_left, taken_as_words, variable_under, variables_under}
+use Rattle.core_form.specs.Facts.{FunctionText, TagText, lookup, has_number, no_function, no_node, one_function, at_nodes, functions_in, parameters_in, let_parameters, function_parameters, binding_parameters, parameters_of, variables_read, variables_set, extents_left, tagbody_left, taken_as_words, variable_under, variables_under}
 use Rattle.closed_copies.specs.Table.{as_list}
-use Rattle.closed_copies.proofs.Carried.{Carries, carried}
+use Rattle.closed_copies.proofs.Carried.{carried}
 use Rattle.closed_copies.proofs.Told.{pairs}
-use Rattle.form_facts.specs.Parts.{Part, reads, sets, leaves, goes, binds, computes, makes, operand_parts, node_parts, function_parts, parts, read_by, set_by, left_by, bound_by, made_by, taken_by}
+use Rattle.form_facts.specs.Parts.{Part, computes, node_parts, function_parts, parts, read_by, set_by, left_by, bound_by, made_by, taken_by}
 use Rattle.form_facts.specs.Words.{taken_in}
 
 -- what operands tell, where those of an arithmetic primitive tell this

@@ -1,11 +1,9 @@
 -- What the code knows of a form is what its facts say.
-use Rattle.std.specs.Prelude.{◌≡◌, refl, ℕ, Bool, ◌&&◌, List, [], ◌∷◌, ◌++◌, flat_map, filter, map}
-use Rattle.std.proofs.Common.{ap, sym, ◌∙◌}
+use Rattle.std.specs.Prelude.{◌≡◌, refl, ℕ, List, [], ◌∷◌, ◌++◌, flat_map, filter, map}
+use Rattle.std.proofs.Common.{ap, ◌∙◌}
 use Rattle.lisp_base.specs.Membership.{SymbolKind}
 use Rattle.core_form.specs.Tree.{Core, Top}
-use Rattle.core_form.specs.Facts.{Names, names_in, functions_in, has_number, union, closed_in, closed_somewhere, changed_somewhere, word_variables, facts_of}
-use Rattle.closed_copies.proofs.Sets.{has_filter}
-use Rattle.closed_copies.proofs.Told.{pairs}
+use Rattle.core_form.specs.Facts.{names_in, functions_in, has_number, union, closed_in, closed_somewhere, changed_somewhere, facts_of}
 use Rattle.form_facts.specs.View.{View, Knows}
 use Rattle.form_facts.specs.Parts.{Part, parts, set_by, left_by}
 use Rattle.form_facts.specs.Lists.{tags_in, locals_in, local_lists, closed_of_parts, joined}

@@ -2,7 +2,6 @@
 use Rattle.std.specs.Prelude.{◌≡◌, refl, ℕ, List, [], ◌∷◌, ◌++◌, Option, Result, OnOk}
 use Rattle.std.proofs.lemmas.Result.{on_ok_weaker}
 use Rattle.std.proofs.Common.{ap, sym, ◌∙◌, append_assoc, ◌⊎◌, inl, inr}
-use Rattle.std.proofs.lemmas.List.Concat.{flat_map-append}
 use Rattle.std.specs.declared.vec.Vec.{Vec}
 use Rattle.std.specs.declared.alloc.Global.{Global}
 use Rattle.std.specs.declared.boxed.Box.{Box}
@@ -16,7 +15,7 @@ use Rattle.core_form.specs.Tree.{Core, Progn, Let, Labels, CallLocal, CallGlobal
 use Rattle.core_form.specs.Reading.{form_of, core_of, cores_list}
 use Rattle.core_form.specs.ListReading.{ReadsFuncall, ReadsApply, ReadsMvCall, ReadsCallLocal, ReadsCallGlobal, ReadsValues}
 use Rattle.core_form.specs.Laws.{ReadsProgn, ReadsPrimitive}
-use Rattle.core_form.specs.Facts.{gather, gather_all, gather_bindings, gather_optionals, gather_definitions, gather_items, optional_parameters, if_given}
+use Rattle.core_form.specs.Facts.{gather, gather_all, gather_bindings, gather_optionals, gather_definitions, gather_items}
 use Rattle.form_facts.specs.Parts.{Part, makes, node_parts, function_parts, lambda_parts, parts}
 
 abbrev all_parts : Cores → List Part

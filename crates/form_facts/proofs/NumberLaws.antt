@@ -1,10 +1,10 @@
 -- What is said of numbers in unions and of what is filtered by them.
-use Rattle.std.specs.Prelude.{◌≡◌, refl, ℕ, ◌+◌, ◌<◌, Bool, true, false, not, ◌&&◌, ◌||◌, ◌==◌, if◌then◌else◌, List, [], ◌∷◌, ◌++◌, length, flat_map, filter}
+use Rattle.std.specs.Prelude.{◌≡◌, refl, ℕ, ◌+◌, ◌<◌, Bool, true, false, not, ◌||◌, if◌then◌else◌, List, [], ◌∷◌, ◌++◌, length, flat_map}
 use Rattle.std.proofs.Common.{ap, sym, ◌∙◌, get_or, drop}
 use Rattle.std.proofs.lemmas.List.{at_drop_more}
 use Rattle.core_form.specs.Tree.{Core}
 use Rattle.core_form.specs.Facts.{TagText, has_number, union, without, at_nodes, variables_set, extents_left, changed_somewhere, tag_texts}
-use Rattle.closed_copies.proofs.Sets.{has_append, has_union, has_filter}
+use Rattle.closed_copies.proofs.Sets.{has_append, has_union}
 use Rattle.closed_copies.proofs.Told.{pairs}
 use Rattle.form_facts.specs.Parts.{parts, set_by, left_by}
 use Rattle.form_facts.proofs.NumberSets.{filter_same}

@@ -1,8 +1,7 @@
 -- What is so of each sample, which is no integer.
-use Rattle.std.specs.Prelude.{◌≡◌, refl, ℕ, ◌+◌, ◌≤◌, Bool, true, false, not, ◌&&◌, ◌==◌, if◌then◌else◌, List, [], ◌∷◌, ◌++◌, map, flat_map, Option, Some}
-use Rattle.std.specs.List.{list_all}
+use Rattle.std.specs.Prelude.{◌≡◌, refl, ℕ, ◌+◌, ◌≤◌, Bool, true, false, ◌&&◌, ◌==◌, if◌then◌else◌, List, [], ◌∷◌, ◌++◌, map, flat_map, Some}
 use Rattle.std.proofs.Common.{ap, sym, ◌∙◌, arith}
-use Rattle.std.proofs.lemmas.Bool.{eq-eqb, eqb-true, false≢true}
+use Rattle.std.proofs.lemmas.Bool.{eq-eqb, eqb-true}
 use Rattle.std.proofs.lemmas.List.Folds.{list_all-append}
 use Rattle.lisp_base.specs.declared.types.Bound.{Bound}
 use Rattle.lisp_base.specs.declared.types.TypeSpec.{TypeSpec}
@@ -13,13 +12,13 @@ use Rattle.lisp_base.specs.declared.values.SymKind.{SymKind}
 use Rattle.lisp_base.specs.declared.values.SymKind.TheVariants as symbol_kinds
 use Rattle.lisp_base.specs.Reading.{spec_of}
 use Rattle.lisp_base.specs.Laws.{specs_list}
-use Rattle.lisp_base.specs.Spec.{Spec, Specs, spec, And}
-use Rattle.lisp_base.specs.Membership.{SymbolKind, in_range, is_integer, has_all}
+use Rattle.lisp_base.specs.Spec.{Specs, spec, And}
+use Rattle.lisp_base.specs.Membership.{SymbolKind, in_range, is_integer}
 use Rattle.core_form.specs.declared.tree.Parameter.{Parameter as Parameter'}
 use Rattle.core_form.specs.declared.tree.Variable.{Variable}
 use Rattle.core_form.specs.declared.tree.Variable.TheVariants.{Lexical}
 use Rattle.core_form.specs.Reading.{parameter_of}
-use Rattle.core_form.specs.Facts.{declared_integer, lexical_number, together, is_within_integers, samples, sample_symbols, all_items_named, greatest_letter, greatest_symbol, not_integer}
+use Rattle.core_form.specs.Facts.{declared_integer, lexical_number, together, is_within_integers, samples, sample_symbols, greatest_letter, greatest_symbol, not_integer}
 use Rattle.form_facts.specs.declared.samples.Sample.{Sample}
 use Rattle.form_facts.specs.declared.samples.Sample.TheVariants as sample
 use Rattle.form_facts.specs.Samples.{value_of, other_symbol, lacks_all, within_integers}

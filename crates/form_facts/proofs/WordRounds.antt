@@ -1,10 +1,10 @@
 -- The words that the code keeps are the word variables.
-use Rattle.std.specs.Prelude.{◌≡◌, refl, ℕ, zero, suc, ◌+◌, ◌-◌, ◌<◌, Bool, ◌==◌, if◌then◌else◌, List, [], ◌∷◌, ◌++◌, length, flat_map, filter}
+use Rattle.std.specs.Prelude.{◌≡◌, refl, ℕ, zero, suc, ◌+◌, ◌-◌, ◌<◌, Bool, if◌then◌else◌, List, [], ◌∷◌, ◌++◌, length, flat_map}
 use Rattle.std.proofs.Common.{ap, sym, ◌∙◌, arith}
 use Rattle.lisp_base.specs.Membership.{SymbolKind}
 use Rattle.core_form.specs.Tree.{Core}
-use Rattle.core_form.specs.Facts.{has_number, union, without, times_in, repeat, narrowed, word_variables, declared_integer, parameters_in, at_nodes, variables_read, taken_as_words, variable_under}
-use Rattle.form_facts.specs.Parts.{Part, sets, parts, read_by, bound_by, taken_by}
+use Rattle.core_form.specs.Facts.{union, without, repeat, narrowed, word_variables, declared_integer, parameters_in, at_nodes, variables_read, variable_under}
+use Rattle.form_facts.specs.Parts.{Part, sets, parts, read_by, taken_by}
 use Rattle.form_facts.specs.Words.{taken_in, kept_words, next_words, declared_of, open_words, settled_words}
 use Rattle.form_facts.proofs.Gathered.{reads_are, bound_are, taken_are}
 use Rattle.form_facts.proofs.NumberLaws.{has_once}

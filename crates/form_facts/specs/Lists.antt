@@ -1,5 +1,5 @@
 -- The closed variables of functions as lists, round by round. (This project's own.)
-use Rattle.std.specs.Prelude.{ℕ, zero, suc, List, [], ◌∷◌, flat_map, map, length}
+use Rattle.std.specs.Prelude.{ℕ, zero, suc, List, [], flat_map, map, length}
 use Rattle.core_form.specs.Tree.{Core, Lambda}
 use Rattle.core_form.specs.Facts.{union, without}
 use Rattle.closed_copies.specs.Events.{events}

@@ -1,5 +1,5 @@
 -- What a form has to do with cells and words, in the order of its text. (This project's own.)
-use Rattle.std.specs.Prelude.{ℕ, List, [], ◌∷◌, ◌++◌, flat_map, if◌then◌else◌}
+use Rattle.std.specs.Prelude.{ℕ, List, [], ◌∷◌, ◌++◌, if◌then◌else◌}
 use Rattle.lisp_base.specs.declared.primitives.Primitive.{Primitive as Operation}
 use Rattle.core_form.specs.Tree.{Core, Local, SetLocal, Let, Primitive, ReturnFrom, Go, Cores, Bindings, Lambda, lambda, Parameter}
 use Rattle.core_form.specs.Facts.{FunctionText, lookup, has_number, gather, gather_optionals, binding_parameters, parameters_of, variable_under, variables_under}

@@ -1,5 +1,5 @@
 -- The values by which a type is seen to be within the integers, as the code has them. (This project's own.)
-use Rattle.std.specs.Prelude.{ℕ, ◌+◌, max, Bool, not, List, [], ◌∷◌}
+use Rattle.std.specs.Prelude.{ℕ, ◌+◌, max, Bool, not, List}
 use Rattle.std.specs.List.{list_all}
 use Rattle.lisp_base.specs.declared.values.Val.{Val}
 use Rattle.lisp_base.specs.declared.values.Val.TheVariants.{Int, Char, Sym, Ref}
