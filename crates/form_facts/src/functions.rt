@@ -1,5 +1,5 @@
 // What the functions of a form close over.
-ghost use Rattle.std.specs.Prelude.{◌≡◌, OnOk, IfOk, flat_map};
+ghost use Rattle.std.specs.Prelude.{◌≡◌, IfOk, flat_map};
 ghost use Rattle.core_form.specs.Reading.{core_of, lambda_of};
 ghost use Rattle.closed_copies.specs.Table.{local_entry};
 ghost use Rattle.closed_copies.specs.Walked.{events_list, tags_list, entries_list};

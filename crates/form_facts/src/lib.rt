@@ -17,4 +17,3 @@ mod tests;
 mod words;
 
 pub use facts::{FormFacts, form_facts};
-pub use numbers::Numbers;

@@ -1,6 +1,6 @@
 // Whether types are within the integers, by values of each kind that is no integer.
 ghost use Rattle.std.specs.Prelude.{◌≡◌, ℕ, IfOk, flat_map, map};
-ghost use Rattle.lisp_base.specs.Sort.{ObjectKind, ConsObject, VectorObject, StringObject, FunctionObject, same};
+ghost use Rattle.lisp_base.specs.Sort.{ConsObject, VectorObject, StringObject, FunctionObject, same};
 ghost use Rattle.lisp_base.specs.Laws.{specs_list};
 ghost use Rattle.lisp_base.specs.Reading.{spec_of};
 ghost use Rattle.lisp_base.specs.Membership.{is_character, is_symbol, is_keyword, keyword_kind, is_symbol_number, is_object, has_named, is_one_of, has as has_value, has_all, has_some};

@@ -3,7 +3,7 @@ ghost use Rattle.std.specs.Prelude.{◌≡◌, ◌++◌, [], OnOk, IfOk, flat_ma
 ghost use Rattle.core_form.specs.Reading.{core_of, cores_list, parameter_of};
 ghost use Rattle.core_form.specs.Facts.{union, repeat, variable_under, variables_under, declared_integer};
 ghost use Rattle.closed_copies.specs.Table.{as_list};
-ghost use Rattle.form_facts.specs.Parts.{read_by, taken_by, bound_by};
+ghost use Rattle.form_facts.specs.Parts.{read_by, taken_by};
 ghost use Rattle.form_facts.specs.Read.{part_of, parts_list, those_parameters};
 ghost use Rattle.form_facts.specs.Words.{kinds_of, taken_in as taken_of, kept_words, next_words, declared_of, settled_words};
 
@@ -12,7 +12,7 @@ use crate::numbers::{Numbers, others_of};
 use crate::parameters::parameters_in;
 use crate::parts::Part;
 use crate::samples::is_within_integers;
-use core_form::{Core, Form, Parameter, Variable, reads_lists, reads_nodes};
+use core_form::{Core, Form, Parameter, Variable};
 use lisp_base::SymTab;
 use std::alloc::{AllocError, Global};
 
@@ -33,8 +33,6 @@ fn reads_in(alloc: Global, parts: &[Part<'_>]) -> Result<Vec<u32>, AllocError>
 fn variable_in(core: &Core) -> Option<u32>
     ensures { as_list result ≡ variable_under (core_of core.now) }
 {
-    reads_lists();
-    reads_nodes();
     match &core.form {
         Form::Local(number) => Some(*number),
         Form::The(_, part) => variable_in(part),
