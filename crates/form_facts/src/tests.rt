@@ -71,10 +71,8 @@ fn facts(alloc: Global, core: Core) -> Result<FormFacts, AllocError> {
     form_facts(alloc, &form, &symbols)
 }
 
-/// `(let ((1 5)) (labels ((7 () (setq 1 1))) (7)))`
-#[test]
-fn tells_cells(rt: HostRuntime) -> Result<(), Fail> {
-    let alloc = rt.alloc();
+/// `(labels ((7 () (setq 1 1))) (7))`
+fn setting(alloc: Global) -> Result<Core, AllocError> {
     let mut definitions = Vec::new(alloc);
     definitions.push(Definition {
         place: place(),
@@ -83,34 +81,43 @@ fn tells_cells(rt: HostRuntime) -> Result<(), Fail> {
         lambda: thunk(alloc, 0, set(alloc, 1, node(Form::Local(1)))?)?,
     })?;
     let call = node(Form::CallLocal(7, Vec::new(alloc)));
-    let labels = node(Form::Labels(definitions, Box::new(alloc, call)?));
-    let facts = facts(alloc, bound(alloc, 1, TypeName::Integer, labels)?)?;
-    assert!(rt; facts.is_cell(1));
-    assert!(rt; !facts.is_cell(7));
-    assert!(rt; !facts.is_word(1));
+    Ok(node(Form::Labels(definitions, Box::new(alloc, call)?)))
+}
+
+/// The same where variable 1 is bound.
+fn of_setting(alloc: Global) -> Result<FormFacts, AllocError> {
+    facts(alloc, bound(alloc, 1, TypeName::Integer, setting(alloc)?)?)
+}
+
+/// A primitive of variable 1, an integer, and variable 2, of this type.
+fn of_operation(
+    alloc: Global,
+    operation: Primitive,
+    second: TypeName,
+) -> Result<FormFacts, AllocError> {
+    let inner = bound(alloc, 2, second, of_both(alloc, operation, 1, 2)?)?;
+    facts(alloc, bound(alloc, 1, TypeName::Integer, inner)?)
+}
+
+#[test]
+fn tells_cells(rt: HostRuntime) -> Result<(), Fail> {
+    let facts = of_setting(rt.alloc())?;
+    assert!(rt; facts.is_cell(1) && !facts.is_word(1));
     assert_eq!(rt; facts.closed_of(0), [1].as_slice());
     assert_eq!(rt; facts.closed_of(1).len(), 0);
     Ok(())
 }
 
-/// `(let ((1 5)) (let ((2 5)) (+ 1 2)))`, and the same with `eq` in the place of `+`, or with a
-/// second variable of any type.
 #[test]
 fn tells_words(rt: HostRuntime) -> Result<(), Fail> {
-    let alloc = rt.alloc();
-    let sum = of_both(alloc, Primitive::Add, 1, 2)?;
-    let inner = bound(alloc, 2, TypeName::Fixnum, sum)?;
-    let words = facts(alloc, bound(alloc, 1, TypeName::Integer, inner)?)?;
-    assert!(rt; words.is_word(1));
-    assert!(rt; words.is_word(2));
-    let same = of_both(alloc, Primitive::Eq, 1, 2)?;
-    let inner = bound(alloc, 2, TypeName::Fixnum, same)?;
-    let compared = facts(alloc, bound(alloc, 1, TypeName::Integer, inner)?)?;
-    assert!(rt; !compared.is_word(1));
-    let sum = of_both(alloc, Primitive::Add, 1, 2)?;
-    let inner = bound(alloc, 2, TypeName::T, sum)?;
-    let mixed = facts(alloc, bound(alloc, 1, TypeName::Integer, inner)?)?;
-    assert!(rt; mixed.is_word(1));
-    assert!(rt; !mixed.is_word(2));
+    let facts = of_operation(rt.alloc(), Primitive::Add, TypeName::Fixnum)?;
+    assert!(rt; facts.is_word(1) && facts.is_word(2));
+    Ok(())
+}
+
+#[test]
+fn tells_what_is_no_word(rt: HostRuntime) -> Result<(), Fail> {
+    let facts = of_operation(rt.alloc(), Primitive::Add, TypeName::List)?;
+    assert!(rt; facts.is_word(1) && !facts.is_word(2));
     Ok(())
 }
