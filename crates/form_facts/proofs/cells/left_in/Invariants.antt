@@ -1,0 +1,10 @@
+use Rattle.std.proofs.Common.{◌≡◌, ◌++◌, drop}
+use Rattle.std.specs.Prelude.{flat_map}
+use Rattle.closed_copies.specs.Walked.{tags_list}
+use Rattle.form_facts.specs.Parts.{left_by}
+use Rattle.form_facts.specs.Read.{parts_list}
+use Rattle.form_facts.proofs.cells.left_in.Given as goal
+
+abbrev pub invariant-loop-part : goal.invariant-loop-part
+invariant-loop-part l =
+    l.numbers.items ++ flat_map (left_by (tags_list l.tags)) (parts_list (drop l.part-index l.parts)) ≡ flat_map (left_by (tags_list l.tags)) (parts_list l.parts)
