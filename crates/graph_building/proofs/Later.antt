@@ -1,0 +1,1 @@
+-- Being built is a preorder. (This project's own.)
