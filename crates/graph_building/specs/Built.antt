@@ -1,5 +1,5 @@
 -- A graph that is being built, and what each call adds to it. (This project's own.)
-use Rattle.std.specs.Prelude.{◌≡◌, ℕ, suc, ◌≤◌, [], ◌∷◌, ◌++◌, length, Option, Some, None}
+use Rattle.std.specs.Prelude.{◌≡◌, ℕ, suc, ◌≤◌, false, [], ◌∷◌, ◌++◌, length, Option, Some, None}
 use Rattle.lisp_base.specs.declared.values.Place.{Place}
 use Rattle.lisp_base.specs.Spec.{Spec}
 use Rattle.icr_graph.specs.declared.nodes.Node.{Node}
@@ -12,6 +12,7 @@ use Rattle.icr_graph.specs.declared.parts.Variable.{Variable}
 use Rattle.icr_graph.specs.declared.parts.Defined.{Defined}
 use Rattle.icr_graph.specs.Plain.{Slots, FlowGraph, graph_of, nodes_in}
 use Rattle.form_graphs.specs.Spots.{Spot, next, first_of, Passes, Here, Ends, Forks, Unasserted, Asserted}
+use Rattle.graph_meaning.specs.Reading.{variable_of_entry}
 use Rattle.graph_building.specs.Later.{SameKind, Later, SameForm, Lasting}
 
 -- a graph; the block to which nodes are added; and a number above those of its continuations
@@ -33,13 +34,21 @@ pub record Grown (a b : Built) : Type 0 where
   pub form : SameForm (graph a) (graph b)
   pub fresh : a.fresh ≤ b.fresh
 
--- a graph with nothing but its first block
-pub record IsBegun (size copies : ℕ) (defines : Option Defined) (b : Built) : Type 0 where
+-- the function of a form's own code, which begins at a block
+abbrev pub own_code : Place → (block : ℕ) → Function
+own_code place b =
+    record { lambda = None; name = None; place = place; required = 0; optional = 0; rest = false; parameters = []; closed = []; entries = b ∷ [] }
+
+-- a graph with nothing but its own code, which begins where nodes are added
+pub record IsBegun (size copies : ℕ) (defines : Option Defined) (place : Place) (b : Built) : Type 0 where
   pub size : (graph b).size ≡ size
   pub copies : (graph b).copies ≡ copies
   pub lambdas : (graph b).lambdas ≡ []
-  pub code : (graph b).code ≡ None
   pub defines : (graph b).defines ≡ defines
+  pub code : ℕ
+  pub is : (graph b).code ≡ Some code
+  pub function : Lasting (λ h. h.function code ≡ Some (own_code place b.block)) (graph b)
+  pub at : spot b ≡ first_of b.block
 
 -- nothing is added where nodes are added
 pub record Beside (a b : Built) : Type 0 where
@@ -112,13 +121,6 @@ pub record NewLambda (f : ℕ) (a b : Built) : Type 0 where
   pub code : (graph b).code ≡ (graph a).code
   pub defines : (graph b).defines ≡ (graph a).defines
 
--- a function is the form's own code
-pub record NewCode (f : ℕ) (a b : Built) : Type 0 where
-  pub later : Later (graph a) (graph b)
-  pub same : spot b ≡ spot a
-  pub fresh : b.fresh ≡ a.fresh
-  pub size : (graph b).size ≡ (graph a).size
-  pub copies : (graph b).copies ≡ (graph a).copies
-  pub lambdas : (graph b).lambdas ≡ (graph a).lambdas
-  pub code : (graph b).code ≡ Some f
-  pub defines : (graph b).defines ≡ (graph a).defines
+-- an entry opens the block or tagbody of this variable
+abbrev pub Opens : Built → (entry variable : ℕ) → Type 0
+Opens a n v = Lasting (λ h. variable_of_entry (h.node n) ≡ Some v) (graph a)

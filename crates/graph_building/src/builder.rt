@@ -1,5 +1,5 @@
 // The builder: a graph, and the block to which nodes are added.
-ghost use Rattle.std.specs.Prelude.{◌≡◌, [], IfOk, OnOk};
+ghost use Rattle.std.specs.Prelude.{◌≡◌, ℕ, [], IfOk, OnOk, Some};
 ghost use Rattle.lisp_base.specs.Reading.{spec_of};
 ghost use Rattle.icr_graph.specs.Kinds.{partners_of};
 ghost use Rattle.graph_building.specs.Built as built;
@@ -43,13 +43,14 @@ pub struct NewFunction {
 }
 
 impl Builder {
-    /// A graph for a form with so many nodes and closed copies, which defines this where it is a
-    /// form of the prelude. It has one block, to which nodes are added.
+    /// A graph for a form at a place with so many nodes and closed copies, which defines this where
+    /// it is a form of the prelude. It has the function of the form's own code, and nodes are added
+    /// where that begins.
     ///
     /// # Errors
     /// Want of memory alone.
-    pub fn new(alloc: Global, size: u32, copies: u32, defines: Option<Defined>) -> Result<Self, AllocError>
-        ensures { IfOk result (built.IsBegun size copies defines) }
+    pub fn new(alloc: Global, size: u32, copies: u32, defines: Option<Defined>, place: Place) -> Result<Self, AllocError>
+        ensures { IfOk result (built.IsBegun size copies defines place) }
     {
         Err(AllocError)
     }
@@ -168,14 +169,11 @@ impl Builder {
         Err(AllocError)
     }
 
-    /// Makes a function the form's own code.
-    ///
-    /// # Errors
-    /// Want of memory.
-    pub fn set_code(&mut self, function: FunId) -> Result<(), AllocError>
-        ensures { OnOk result (built.NewCode function self.old self.new) }
+    /// The variable of the block or tagbody that an entry opens; None where it opens neither.
+    pub fn extent_variable(&self, entry: NodeId) -> Option<VarId>
+        ensures { (v : ℕ) → result ≡ Some v → built.Opens self.now entry v }
     {
-        Err(AllocError)
+        None
     }
 
     /// The graph.
