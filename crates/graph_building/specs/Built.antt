@@ -40,11 +40,11 @@ own_code place b =
     record { lambda = None; name = None; place = place; required = 0; optional = 0; rest = false; parameters = []; closed = []; entries = b ∷ [] }
 
 -- a graph with nothing but its own code, which begins where nodes are added
-pub record IsBegun (size copies : ℕ) (defines : Option Defined) (place : Place) (b : Built) : Type 0 where
-  pub size : (graph b).size ≡ size
-  pub copies : (graph b).copies ≡ copies
+pub record IsBegun (nodes closed : ℕ) (defined : Option Defined) (place : Place) (b : Built) : Type 0 where
+  pub size : (graph b).size ≡ nodes
+  pub copies : (graph b).copies ≡ closed
   pub lambdas : (graph b).lambdas ≡ []
-  pub defines : (graph b).defines ≡ defines
+  pub defines : (graph b).defines ≡ defined
   pub code : ℕ
   pub is : (graph b).code ≡ Some code
   pub function : Lasting (λ h. h.function code ≡ Some (own_code place b.block)) (graph b)
