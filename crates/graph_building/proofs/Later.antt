@@ -1,10 +1,12 @@
 -- What stands in a graph stands in all that it becomes. (This project's own.)
-use Rattle.std.proofs.Common.{◌≡◌, ◌≢◌, ◌≤◌, ℕ, suc, Bool, true, false, ◌==◌, List, [], ◌∷◌, ◌++◌, length, Option, Some, None, refl, sym, ap, subst, ◌∙◌, append-nil, append_assoc, arith}
+use Rattle.std.proofs.Common.{◌≡◌, ◌≢◌, ◌≤◌, ℕ, zero, suc, Bool, true, false, ◌==◌, ◌||◌, List, [], ◌∷◌, ◌++◌, length, Option, Some, None, refl, sym, ap, subst, ◌∙◌, append-nil, append_assoc, eq-eqb, arith}
 use Rattle.std.specs.Prelude.{slice_get}
+use Rattle.std.proofs.lemmas.Option.{same_Some}
 use Rattle.lisp_base.specs.declared.values.Place.{Place}
 use Rattle.lisp_base.specs.Spec.{Spec}
 use Rattle.core_form.specs.Facts.{Facts}
 use Rattle.icr_graph.specs.declared.nodes.Node.{Node}
+use Rattle.icr_graph.specs.declared.nodes.Charges.{Charges}
 use Rattle.icr_graph.specs.declared.nodes.NodeKind.{NodeKind}
 use Rattle.icr_graph.specs.declared.nodes.NodeKind.TheVariants as kind
 use Rattle.icr_graph.specs.declared.parts.Block.{Block}
@@ -13,7 +15,7 @@ use Rattle.icr_graph.specs.declared.parts.Variable.{Variable}
 use Rattle.icr_graph.specs.Lists.{has_number, numbers_of}
 use Rattle.icr_graph.specs.Plain.{FlowGraph, nodes_in, blocks_after, block_of}
 use Rattle.icr_graph.specs.Whole.{IsWhole}
-use Rattle.graph_meaning.specs.Reading.{node_at, named}
+use Rattle.graph_meaning.specs.Reading.{node_at, named, assertions_on}
 use Rattle.form_graphs.specs.Spots.{Spot, Passes, Here, Ends, Forks, Unasserted, Asserted, IsVariable}
 use Rattle.graph_building.specs.Later.{SameKind, SameNode, SameBlock, Later, SameForm, Lasting}
 use Rattle.graph_building.specs.Built.{Built, Grown}
@@ -117,3 +119,117 @@ lasts P g h lasting later i then = lasting i (later_trans g h i later then)
 -- and it is so of that graph
 pub lasts_now : (P : FlowGraph → Type 0) (g : FlowGraph) → Lasting P g → P g
 lasts_now P g lasting = lasting g (later_refl g)
+
+-- ---- what stands at a place
+
+-- what a list gives, a longer one gives
+get_longer : (xs more : List ℕ) (i n : ℕ) → slice_get xs i ≡ Some n → slice_get (xs ++ more) i ≡ Some n
+get_longer [] more i n e = cc
+get_longer (x ∷ xs) more zero n e = e
+get_longer (x ∷ xs) more (suc i) n e = get_longer xs more i n e
+
+-- the number under which something was found
+found_under : {A : Type 0} → (entries : ℕ → Option A) (o : Option ℕ) (a : A) → named entries o ≡ Some a → (n : ℕ) × (o ≡ Some n) × (entries n ≡ Some a)
+found_under entries None a e = cc
+found_under entries (Some n) a e = (n, refl, e)
+
+not_empty : (x : ℕ) (xs : List ℕ) → x ∷ xs ≢ []
+not_empty x xs e = cc
+
+-- a block has the nodes that it had, and maybe more
+pub nodes_later : (g h : FlowGraph) → Later g h → (b : ℕ) → (more : List ℕ) × (nodes_in h b ≡ nodes_in g b ++ more)
+nodes_later g h later b = by_case (g.block b) refl
+  where
+    by_case : (o : Option Block) → g.block b ≡ o → (more : List ℕ) × (nodes_in h b ≡ numbers_of (λ (x : Block). x.nodes) o ++ more)
+    by_case None e = (nodes_in h b, refl)
+    by_case (Some x) e =
+        let y = later.blocks b x e in
+        (y.2.more, ap (numbers_of (λ (z : Block). z.nodes)) y.1 ∙ y.2.nodes)
+
+-- a block that has a block after it stays
+pub ended_later : (g h : FlowGraph) → Later g h → (b : ℕ) → blocks_after g b ≢ [] → (nodes_in h b ≡ nodes_in g b) × (blocks_after h b ≡ blocks_after g b)
+ended_later g h later b = by_case (g.block b) refl
+  where
+    by_case : (o : Option Block) → g.block b ≡ o → numbers_of (λ (x : Block). x.after) o ≢ [] → (nodes_in h b ≡ numbers_of (λ (x : Block). x.nodes) o) × (blocks_after h b ≡ numbers_of (λ (x : Block). x.after) o)
+    by_case None e some = absurd (some refl)
+    by_case (Some x) e some =
+        let y = later.blocks b x e in
+        let same : (y.0.nodes ≡ x.nodes) × (y.0.after ≡ x.after) = y.2.ended some in
+        (ap (numbers_of (λ (z : Block). z.nodes)) y.1 ∙ same.0, ap (numbers_of (λ (z : Block). z.after)) y.1 ∙ same.1)
+
+-- a node that is not there is not there later, where its block has ended
+no_node_after : (g h : FlowGraph) (b i : ℕ) → nodes_in h b ≡ nodes_in g b → slice_get (nodes_in g b) i ≡ None → slice_get (nodes_in h b) i ≡ None
+no_node_after g h b i same none = ap (λ (ns : List ℕ). slice_get ns i) same ∙ none
+
+node_of_parts : (y : Node) (to : Option ℕ) (b : ℕ) (place : Place) (c : Charges) → y.cont ≡ to → y.block ≡ b → y.place ≡ place → y.charges ≡ c → y ≡ record { kind = y.kind; cont = to; block = b; place = place; charges = c }
+node_of_parts y to b place c to_is b_is place_is c_is = rw (← to_is, ← b_is, ← place_is, ← c_is) refl
+
+pub here_lasts : (g : FlowGraph) (p : Spot) (k : NodeKind) (to : Option ℕ) (place : Place) (cost : ℕ) (passes : Passes) → Here g p k to place cost passes → Lasting (λ h. (k' : NodeKind) × SameKind k k' × Here h p k' to place cost passes) g
+here_lasts g p k to place cost passes here h later =
+    let found = found_under g.node (slice_get (nodes_in g p.block) p.index) _ here.1 in
+    let more = nodes_later g h later p.block in
+    let y = later.nodes found.0 _ found.2 in
+    let at : slice_get (nodes_in h p.block) p.index ≡ Some found.0 = ap (λ (ns : List ℕ). slice_get ns p.index) more.1 ∙ get_longer (nodes_in g p.block) more.0 p.index found.0 found.1 in
+    (y.0.kind, y.2.kind, (here.0, ap (named h.node) at ∙ y.1 ∙ ap Some (node_of_parts y.0 _ _ _ _ y.2.cont y.2.block y.2.place y.2.charges)))
+
+-- the same of a node that is no entry
+pub here_stays : (g : FlowGraph) (p : Spot) (k : NodeKind) (to : Option ℕ) (place : Place) (cost : ℕ) (passes : Passes) → ((k' : NodeKind) → SameKind k k' → k' ≡ k) → Here g p k to place cost passes → Lasting (λ h. Here h p k to place cost passes) g
+here_stays g p k to place cost passes same here h later =
+    let x = here_lasts g p k to place cost passes here h later in
+    subst (λ (k' : NodeKind). Here h p k' to place cost passes) (same x.0 x.1) x.2
+
+-- a block that ends, as its list of nodes says
+pub ends_by_length : (g : FlowGraph) (p : Spot) (b : ℕ) → slice_get (nodes_in g p.block) p.index ≡ None → blocks_after g p.block ≡ b ∷ [] → Lasting (λ h. Ends h p b) g
+ends_by_length g p b none after h later =
+    let same = ended_later g h later p.block (λ e. not_empty b [] (sym after ∙ e)) in
+    (ap (named h.node) (no_node_after g h p.block p.index same.0 none), same.1 ∙ after)
+
+pub forks_lasts : (g : FlowGraph) (p : Spot) (y n : ℕ) → Forks g p y n → Lasting (λ h. Forks h p y n) g
+forks_lasts g p y n forks h later =
+    let same = ended_later g h later p.block (λ e. not_empty y (n ∷ []) (sym forks.1 ∙ e)) in
+    (no_node_after g h p.block (suc p.index) same.0 forks.0, same.1 ∙ forks.1)
+
+-- ---- a block that ends in a graph that hangs together
+
+has_at : (xs : List ℕ) (i n : ℕ) → slice_get xs i ≡ Some n → has_number n xs ≡ true
+has_at [] i n e = cc
+has_at (x ∷ xs) zero n e = rw (same_Some x n e, eq-eqb n n refl) refl
+has_at (x ∷ xs) (suc i) n e = rw (has_at xs i n e) (or_true (x == n))
+  where
+    or_true : (b : Bool) → (b || true) ≡ true
+    or_true true = refl
+    or_true false = refl
+
+-- the nodes of a block are there
+no_node_listed : (g : FlowGraph) (b i : ℕ) → IsWhole g → node_at g b i ≡ None → slice_get (nodes_in g b) i ≡ None
+no_node_listed g b i whole none = by_case (slice_get (nodes_in g b) i) refl none
+  where
+    by_case : (o : Option ℕ) → slice_get (nodes_in g b) i ≡ o → named g.node o ≡ None → o ≡ None
+    by_case None e gone = refl
+    by_case (Some n) e gone =
+        let listed : has_number b (block_of g n) ≡ true = whole.places n b ∙ has_at (nodes_in g b) i n e in
+        let unlisted : has_number b (block_of g n) ≡ false = ap (λ (o : Option Node). has_number b (numbers_of (λ (x : Node). x.block ∷ []) o)) gone in
+        cc
+
+pub ends_lasts : (g : FlowGraph) (p : Spot) (b : ℕ) → IsWhole g → Ends g p b → Lasting (λ h. Ends h p b) g
+ends_lasts g p b whole ends = ends_by_length g p b (no_node_listed g p.block p.index whole ends.0) ends.1
+
+-- ---- continuations and variables
+
+pub asserts_later : (g h : FlowGraph) → Later g h → (k : ℕ) (x : Cont) → g.cont k ≡ Some x → assertions_on (h.cont k) ≡ assertions_on (g.cont k)
+asserts_later g h later k x there =
+    let y = later.conts k x there in
+    ap assertions_on y.1 ∙ y.2 ∙ sym (ap assertions_on there)
+
+pub unasserted_lasts : (g : FlowGraph) (k : ℕ) (x : Cont) → g.cont k ≡ Some x → Unasserted g k → Lasting (λ h. Unasserted h k) g
+unasserted_lasts g k x there none h later = asserts_later g h later k x there ∙ none
+
+pub asserted_lasts : (g : FlowGraph) (k : ℕ) (place : Place) (t : Spec) → Asserted g k place t → Lasting (λ h. Asserted h k place t) g
+asserted_lasts g k place t asserted h later = by_case (g.cont k) refl asserted.1
+  where
+    by_case : (o : Option Cont) → g.cont k ≡ o → assertions_on o ≡ asserted.0 ∷ [] → Asserted h k place t
+    by_case None there is = cc
+    by_case (Some x) there is = (asserted.0, asserts_later g h later k x there ∙ asserted.1, asserted.2, asserted.3, asserted.4)
+
+pub is_variable_lasts : (g : FlowGraph) (facts : Facts) (v x : ℕ) → IsVariable g facts v x → Lasting (λ h. IsVariable h facts v x) g
+is_variable_lasts g facts v x is h later = (is.0, later.variables v is.0 is.1, is.2)
