@@ -1,3 +1,4 @@
 -- The lemmas of this crate.
 pub mod Later
 pub mod Entries
+pub mod Edits
