@@ -2,5 +2,8 @@
 #![tactic(auto)]
 
 mod builder;
+mod flow;
+mod functions;
+mod nodes;
 
 pub use builder::{Builder, NewFunction};
