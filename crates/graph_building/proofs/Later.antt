@@ -16,7 +16,7 @@ use Rattle.icr_graph.specs.Lists.{has_number, numbers_of}
 use Rattle.icr_graph.specs.Plain.{FlowGraph, nodes_in, blocks_after, block_of}
 use Rattle.icr_graph.specs.Whole.{IsWhole}
 use Rattle.graph_meaning.specs.Reading.{node_at, named, assertions_on}
-use Rattle.form_graphs.specs.Spots.{Spot, Passes, Here, Ends, Forks, Unasserted, Asserted, IsVariable}
+use Rattle.form_graphs.specs.Spots.{Spot, next, Passes, Here, Ends, Forks, Unasserted, Asserted, IsVariable}
 use Rattle.graph_building.specs.Later.{SameKind, SameNode, SameBlock, Later, SameForm, Lasting}
 use Rattle.graph_building.specs.Built.{Built, Grown}
 
@@ -157,10 +157,6 @@ ended_later g h later b = by_case (g.block b) refl
         let same : (y.0.nodes ≡ x.nodes) × (y.0.after ≡ x.after) = y.2.ended some in
         (ap (numbers_of (λ (z : Block). z.nodes)) y.1 ∙ same.0, ap (numbers_of (λ (z : Block). z.after)) y.1 ∙ same.1)
 
--- a node that is not there is not there later, where its block has ended
-no_node_after : (g h : FlowGraph) (b i : ℕ) → nodes_in h b ≡ nodes_in g b → slice_get (nodes_in g b) i ≡ None → slice_get (nodes_in h b) i ≡ None
-no_node_after g h b i same none = ap (λ (ns : List ℕ). slice_get ns i) same ∙ none
-
 node_of_parts : (y : Node) (to : Option ℕ) (b : ℕ) (place : Place) (c : Charges) → y.cont ≡ to → y.block ≡ b → y.place ≡ place → y.charges ≡ c → y ≡ record { kind = y.kind; cont = to; block = b; place = place; charges = c }
 node_of_parts y to b place c to_is b_is place_is c_is = rw (← to_is, ← b_is, ← place_is, ← c_is) refl
 
@@ -178,16 +174,20 @@ here_stays g p k to place cost passes same here h later =
     let x = here_lasts g p k to place cost passes here h later in
     subst (λ (k' : NodeKind). Here h p k' to place cost passes) (same x.0 x.1) x.2
 
+-- where the nodes of a block end that has a block after it
+pub end_lasts : (g : FlowGraph) (p : Spot) (c : ℕ) (cs : List ℕ) → slice_get (nodes_in g p.block) p.index ≡ None → blocks_after g p.block ≡ c ∷ cs → Lasting (λ h. (slice_get (nodes_in h p.block) p.index ≡ None) × (blocks_after h p.block ≡ c ∷ cs)) g
+end_lasts g p c cs none after h later =
+    let same = ended_later g h later p.block (λ e. not_empty c cs (sym after ∙ e)) in
+    (ap (λ (ns : List ℕ). slice_get ns p.index) same.0 ∙ none, same.1 ∙ after)
+
 -- a block that ends, as its list of nodes says
 pub ends_by_length : (g : FlowGraph) (p : Spot) (b : ℕ) → slice_get (nodes_in g p.block) p.index ≡ None → blocks_after g p.block ≡ b ∷ [] → Lasting (λ h. Ends h p b) g
 ends_by_length g p b none after h later =
-    let same = ended_later g h later p.block (λ e. not_empty b [] (sym after ∙ e)) in
-    (ap (named h.node) (no_node_after g h p.block p.index same.0 none), same.1 ∙ after)
+    let end = end_lasts g p b [] none after h later in
+    (ap (named h.node) end.0, end.1)
 
 pub forks_lasts : (g : FlowGraph) (p : Spot) (y n : ℕ) → Forks g p y n → Lasting (λ h. Forks h p y n) g
-forks_lasts g p y n forks h later =
-    let same = ended_later g h later p.block (λ e. not_empty y (n ∷ []) (sym forks.1 ∙ e)) in
-    (no_node_after g h p.block (suc p.index) same.0 forks.0, same.1 ∙ forks.1)
+forks_lasts g p y n forks = end_lasts g (next p) y (n ∷ []) forks.0 forks.1
 
 -- ---- a block that ends in a graph that hangs together
 

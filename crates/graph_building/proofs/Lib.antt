@@ -2,3 +2,4 @@
 pub mod Later
 pub mod Entries
 pub mod Edits
+pub mod Parts
