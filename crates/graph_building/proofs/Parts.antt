@@ -18,6 +18,7 @@ use Rattle.icr_graph.specs.Building.{empty_block, empty_cont, with_block, with_c
 use Rattle.icr_graph.specs.Plain.{Slots, FlowGraph, graph_of, nodes_in, blocks_after}
 use Rattle.graph_meaning.specs.Reading.{assertions_on}
 use Rattle.form_graphs.specs.Spots.{Spot, next, first_of, Ends, Forks, Unasserted, Asserted}
+use Rattle.graph_building.specs.declared.builder.NewFunction.{NewFunction as Added}
 use Rattle.graph_building.specs.Later.{Later, SameForm, Lasting}
 use Rattle.graph_building.specs.Built.{Built, graph, spot, Grown, Beside, Begins, NewCont, FreeCont, AssertedCont, GoesOn, ForksTo, NewVariable, NewFunction, NewLambda}
 use Rattle.graph_building.specs.Steps.{AddsCont, AddsFunction, IsOpen, with_code_at}
@@ -190,11 +191,11 @@ begins a b n block_is fresh is found =
       at = spot_is b n [] block_is (ap (λ (g : FlowGraph). nodes_in g n) is ∙ found.nodes);
     }
 
-pub goes_on : (a b : Built) (to then : ℕ) → b.block ≡ then → b.fresh ≡ a.fresh → blocks_after (graph a) a.block ≡ [] → IsOpen (graph a) then → link_fault (graph a) a.block to ≡ None → graph b ≡ linked a.block to (graph a) → GoesOn to then a b
-goes_on a b to then block_is fresh none found allowed is =
+pub goes_on : (a b : Built) (to start : ℕ) → b.block ≡ start → b.fresh ≡ a.fresh → blocks_after (graph a) a.block ≡ [] → IsOpen (graph a) start → link_fault (graph a) a.block to ≡ None → graph b ≡ linked a.block to (graph a) → GoesOn to start a b
+goes_on a b to start block_is fresh none found allowed is =
     record {
       grown = record { later = later_at _ _ _ is (linked_later (graph a) a.block none to); form = form_at _ _ _ is refl refl refl refl refl; fresh = omega arith };
-      at = spot_is b then [] block_is (nodes_are then ∙ found.nodes);
+      at = spot_is b start [] block_is (nodes_are start ∙ found.nodes);
       ends = ends_by_length (graph b) (spot a) to (past_the_end (nodes_in (graph a) a.block) _ (nodes_are a.block))
       (ap (λ (g : FlowGraph). blocks_after g a.block) is ∙ linked_after (graph a) a.block to allowed ∙ ap (λ (bs : List ℕ). bs ++ to ∷ []) none);
     }
@@ -221,3 +222,36 @@ forks_to a b yes_block no_block block_is fresh none found allowed allowed_too is
         ap (λ (g : FlowGraph). blocks_after g a.block) is
         ∙ linked_after (linked a.block yes_block (graph a)) a.block no_block allowed_too
         ∙ ap (λ (bs : List ℕ). bs ++ no_block ∷ []) (linked_after (graph a) a.block yes_block allowed ∙ ap (λ (bs : List ℕ). bs ++ yes_block ∷ []) none)
+
+-- ---- edits that may be refused
+
+-- the blocks after a block stay, whether the edit is made or refused
+pub after_stays : {T E : Type 0} (r : Result T E) (g h : FlowGraph) (edited : T → FlowGraph) (b : ℕ) → ((x : T) → blocks_after (edited x) b ≡ blocks_after g b) → IfOk r (λ x. h ≡ edited x) → OnErr r (h ≡ g) → blocks_after h b ≡ blocks_after g b
+after_stays (Ok x) g h edited b kept is same = ap (λ (j : FlowGraph). blocks_after j b) is ∙ kept x
+after_stays (Err e) g h edited b kept is same = ap (λ (j : FlowGraph). blocks_after j b) same
+
+pub after_stays_block : {E : Type 0} (r : Result ℕ E) (g h : FlowGraph) (b : ℕ) → IfOk r (λ n. g.block n ≡ None) → IfOk r (λ n. h ≡ with_block n g) → OnErr r (h ≡ g) → blocks_after h b ≡ blocks_after g b
+after_stays_block (Ok n) g h b vacant is same = ap (λ (j : FlowGraph). blocks_after j b) is ∙ entry_reads (λ (x : Block). x.after) g.block n empty_block b vacant refl
+after_stays_block (Err e) g h b vacant is same = ap (λ (j : FlowGraph). blocks_after j b) same
+
+module _ {E : Type 0} (a b : Built) (block_is : b.block ≡ a.block) (fresh_is : b.fresh ≡ a.fresh) where
+  pub block_told : (r : Result ℕ E) → IfOk r (λ n. (graph a).block n ≡ None) → IfOk r (λ n. graph b ≡ with_block n (graph a)) → IfOk r (λ n. Beside a b)
+  block_told (Ok n) vacant is = block_beside a b block_is n fresh_is vacant is
+  block_told (Err e) vacant is = tt
+
+  pub variable_told : (r : Result ℕ E) (variable : Variable) → IfOk r (λ v. (graph a).variable v ≡ None) → IfOk r (λ v. graph b ≡ with_variable v variable (graph a)) → IfOk r (λ v. NewVariable variable a b v)
+  variable_told (Ok v) variable vacant is = new_variable a b block_is v variable fresh_is vacant is
+  variable_told (Err e) variable vacant is = tt
+
+pub cont_told : {E : Type 0} (a b : Built) (r : Result ℕ E) → IfOk r (AddsCont a b) → IfOk r (FreeCont a b)
+cont_told a b (Ok k) adds = new_cont a b adds.block k adds
+cont_told a b (Err e) adds = tt
+
+pub lambda_told : {E : Type 0} (a b : Built) → b.block ≡ a.block → b.fresh ≡ a.fresh → (r : Result (Unit {0}) E) (f : ℕ) → OnOk r (graph b ≡ with_lambda f (graph a)) → OnOk r (NewLambda f a b)
+lambda_told a b block_is fresh_is (Ok u) f is = new_lambda a b block_is f fresh_is is
+lambda_told a b block_is fresh_is (Err e) f is = tt
+
+pub function_told : {E : Type 0} (a b : Built) → b.block ≡ a.block → b.fresh ≡ a.fresh → (r : Result Added E) (function : Function) → function.entries ≡ [] →
+    IfOk r (λ f. AddsFunction function (graph a) (graph b) f.function f.block) → IfOk r (λ f. NewFunction function a b f.function f.block)
+function_told a b block_is fresh_is (Ok f) function none adds = new_function a b block_is f.function f.block function none fresh_is adds
+function_told a b block_is fresh_is (Err e) function none adds = tt

@@ -1,13 +1,19 @@
-use Rattle.std.proofs.Common.{rules, ◌≡◌, ℕ, [], IfOk, OnOk, ◌+◌, ◌-◌, ◌*◌, ◌<◌, ◌≤◌, length, ◌/◌, ◌%◌, Bool, true, false, nat_eq, nat_lt, List, ◌∷◌, ◌++◌, slice_index_or, slice_set, bit_and, bit_or, Fits, w8, w32, w64, Bor, MutBor}
-use Rattle.icr_graph.specs.Plain.{graph_of, blocks_after}
-use Rattle.graph_building.specs.Built as built
-use Rattle.graph_building.specs.Steps.{AddsFunction}
+-- A lambda more changes no block.
+use Rattle.std.proofs.Common.{◌≡◌, refl, ap, ◌∙◌, rules}
+use Rattle.std.specs.Prelude.{OnOk}
+use Rattle.std.proofs.lemmas.Result.{on_err_weaker}
+use Rattle.icr_graph.specs.Plain.{graph_of}
+use Rattle.icr_graph.specs.Building.{with_lambda}
+use Rattle.graph_building.proofs.Parts.{after_stays, lambda_told}
 use Rattle.graph_building.proofs.builder.Builder.add_lambda.Goals as goal
 
--- src/functions.rt:44:5
 pub invariant_of-self : goal.invariant_of-self
-invariant_of-self c = ?
+invariant_of-self c =
+    after_stays c.add_lambda.result (graph_of c.self.inside.graph) (graph_of c.add_lambda.new.self) (λ u. with_lambda c.args.function (graph_of c.self.inside.graph)) c.self.inside.block
+    (λ u. refl) c.add_lambda.ensures.ok (on_err_weaker c.add_lambda.result (ap graph_of) c.add_lambda.ensures.err)
+    ∙ c.self.invariant
 
--- src/functions.rt:44:5
 pub returns : goal.returns
-returns c = ?
+returns c =
+    let is : OnOk c.map_err.result (graph_of c.add_lambda.new.self ≡ with_lambda c.args.function (graph_of c.self.inside.graph)) = search rules in
+    rw (← c.self.view_is) (lambda_told _ _ refl refl c.map_err.result c.args.function is)

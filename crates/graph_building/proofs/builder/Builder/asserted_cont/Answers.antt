@@ -1,18 +1,22 @@
-use Rattle.std.proofs.Common.{rules, ◌≡◌, ◌≤◌, suc, [], None, IfOk, OnOk, ℕ, ◌+◌, ◌-◌, ◌*◌, ◌<◌, length, ◌/◌, ◌%◌, Bool, true, false, nat_eq, nat_lt, List, ◌∷◌, ◌++◌, slice_index_or, slice_set, bit_and, bit_or, Fits, w8, w32, w64, Bor, MutBor}
-use Rattle.lisp_base.specs.Reading.{spec_of}
-use Rattle.icr_graph.specs.Kinds.{partners_of}
-use Rattle.graph_building.specs.Built as built
-use Rattle.graph_building.specs.Steps.{Becomes, AddsCont, AddsNode, delivering, pairing}
+-- An assertion changes no block.
+use Rattle.std.proofs.Common.{◌≡◌, refl, ap, ◌∙◌, true, rules}
+use Rattle.icr_graph.specs.Plain.{FlowGraph, graph_of, blocks_after}
+use Rattle.icr_graph.specs.Building.{with_assertion}
+use Rattle.graph_building.proofs.Parts.{new_asserted}
 use Rattle.graph_building.proofs.builder.Builder.asserted_cont.Goals as goal
 
--- src/nodes.rt:83:9
 pub invariant_of-self : goal.invariant_of-self
-invariant_of-self c = ?
+invariant_of-self c =
+    let same : graph_of c.assert_on.new.self ≡ graph_of c.self.inside.graph = search rules in
+    ap (λ (g : FlowGraph). blocks_after g c.self.inside.block) same ∙ c.self.invariant
 
--- src/nodes.rt:74:5
 pub invariant_of-self-2 : goal.invariant_of-self-2
-invariant_of-self-2 c = ?
+invariant_of-self-2 c =
+    let is : graph_of c.assert_on.new.self ≡ with_assertion c.in_ok-cont.cont (record { spec = c.args.spec; place = c.args.place; checked = true }) (graph_of c.self.inside.graph) = search rules in
+    ap (λ (g : FlowGraph). blocks_after g c.self.inside.block) is ∙ c.self.invariant
 
--- src/nodes.rt:74:5
 pub returns : goal.returns
-returns c = ?
+returns c =
+    let is : graph_of c.assert_on.new.self ≡ with_assertion c.in_ok-cont.cont (record { spec = c.args.spec; place = c.args.place; checked = true }) (graph_of c.self.inside.graph) = search rules in
+    new_asserted c.args.self.now c.add_cont.new.self _ c.in_ok-cont.cont c.args.spec c.args.place c.in_ok-cont.ensures
+    (ap (λ m. m.block) c.self.view_is) (ap (λ m. m.fresh) c.self.view_is) (is ∙ ?)

@@ -1,9 +1,7 @@
-use Rattle.std.proofs.Common.{rules, ◌≡◌, ◌≢◌, IsTrue, OnOk, ℕ, ◌+◌, ◌-◌, ◌*◌, ◌<◌, ◌≤◌, length, ◌/◌, ◌%◌, Bool, true, false, nat_eq, nat_lt, List, [], ◌∷◌, ◌++◌, slice_index_or, slice_set, bit_and, bit_or, Fits, w8, w32, w64, Bor, MutBor}
-use Rattle.icr_graph.specs.Plain.{graph_of}
-use Rattle.graph_building.specs.Built as built
-use Rattle.graph_building.specs.Steps.{IsOpen}
+-- The block has no nodes, and no block follows it.
+use Rattle.std.proofs.Common.{refl, rules}
+use Rattle.graph_building.proofs.Parts.{begins}
 use Rattle.graph_building.proofs.builder.Builder.begin.Goals as goal
 
--- src/flow.rt:35:5
 pub returns : goal.returns
-returns c = ?
+returns c = rw (← c.self.view_is) (begins _ _ c.args.block refl refl refl ?)

@@ -1,14 +1,16 @@
-use Rattle.std.proofs.Common.{rules, ◌≡◌, ◌≤◌, suc, [], None, IfOk, OnOk, ℕ, ◌+◌, ◌-◌, ◌*◌, ◌<◌, length, ◌/◌, ◌%◌, Bool, true, false, nat_eq, nat_lt, List, ◌∷◌, ◌++◌, slice_index_or, slice_set, bit_and, bit_or, Fits, w8, w32, w64, Bor, MutBor}
-use Rattle.lisp_base.specs.Reading.{spec_of}
-use Rattle.icr_graph.specs.Kinds.{partners_of}
-use Rattle.graph_building.specs.Built as built
-use Rattle.graph_building.specs.Steps.{Becomes, AddsCont, AddsNode, delivering, pairing}
+-- A new block is no block after another.
+use Rattle.std.proofs.Common.{refl, ap, ◌∙◌}
+use Rattle.std.proofs.lemmas.Result.{on_err_weaker}
+use Rattle.icr_graph.specs.Plain.{graph_of}
+use Rattle.graph_building.proofs.Parts.{after_stays_block, block_told}
 use Rattle.graph_building.proofs.builder.Builder.block.Goals as goal
 
--- src/nodes.rt:35:5
 pub invariant_of-self : goal.invariant_of-self
-invariant_of-self c = ?
+invariant_of-self c =
+    after_stays_block c.add_block.result (graph_of c.self.inside.graph) (graph_of c.add_block.new.self) c.self.inside.block
+    c.add_block.ensures.vacant c.add_block.ensures.ok (on_err_weaker c.add_block.result (ap graph_of) c.add_block.ensures.err)
+    ∙ c.self.invariant
 
--- src/nodes.rt:35:5
 pub returns : goal.returns
-returns c = ?
+returns c =
+    rw (← c.self.view_is) (block_told _ _ refl refl c.add_block.result c.add_block.ensures.vacant c.add_block.ensures.ok)

@@ -1,10 +1,6 @@
-use Rattle.std.proofs.Common.{rules, ◌≡◌, ◌≤◌, suc, [], None, IfOk, OnOk, ℕ, ◌+◌, ◌-◌, ◌*◌, ◌<◌, length, ◌/◌, ◌%◌, Bool, true, false, nat_eq, nat_lt, List, ◌∷◌, ◌++◌, slice_index_or, slice_set, bit_and, bit_or, Fits, w8, w32, w64, Bor, MutBor}
-use Rattle.lisp_base.specs.Reading.{spec_of}
-use Rattle.icr_graph.specs.Kinds.{partners_of}
-use Rattle.graph_building.specs.Built as built
-use Rattle.graph_building.specs.Steps.{Becomes, AddsCont, AddsNode, delivering, pairing}
+-- Nothing is asserted of a new continuation.
+use Rattle.graph_building.proofs.Parts.{cont_told}
 use Rattle.graph_building.proofs.builder.Builder.cont.Goals as goal
 
--- src/nodes.rt:64:5
 pub returns : goal.returns
-returns c = ?
+returns c = cont_told c.args.self.now c.add_cont.new.self c.add_cont.result c.add_cont.ensures

@@ -1,9 +1,8 @@
-use Rattle.std.proofs.Common.{rules, ◌≡◌, ℕ, [], IfOk, OnOk, ◌+◌, ◌-◌, ◌*◌, ◌<◌, ◌≤◌, length, ◌/◌, ◌%◌, Bool, true, false, nat_eq, nat_lt, List, ◌∷◌, ◌++◌, slice_index_or, slice_set, bit_and, bit_or, Fits, w8, w32, w64, Bor, MutBor}
-use Rattle.icr_graph.specs.Plain.{graph_of, blocks_after}
-use Rattle.graph_building.specs.Built as built
-use Rattle.graph_building.specs.Steps.{AddsFunction}
+-- The code of a new function begins at a new block.
+use Rattle.std.proofs.Common.{refl}
+use Rattle.graph_building.proofs.Parts.{function_told}
 use Rattle.graph_building.proofs.builder.Builder.function.Goals as goal
 
--- src/functions.rt:33:5
 pub returns : goal.returns
-returns c = ?
+returns c =
+    rw (← c.self.view_is) (function_told _ _ refl refl c.begin_function.result c.args.function c.requires c.begin_function.ensures.added)

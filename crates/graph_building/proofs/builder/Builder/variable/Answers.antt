@@ -1,14 +1,17 @@
-use Rattle.std.proofs.Common.{rules, ◌≡◌, ◌≤◌, suc, [], None, IfOk, OnOk, ℕ, ◌+◌, ◌-◌, ◌*◌, ◌<◌, length, ◌/◌, ◌%◌, Bool, true, false, nat_eq, nat_lt, List, ◌∷◌, ◌++◌, slice_index_or, slice_set, bit_and, bit_or, Fits, w8, w32, w64, Bor, MutBor}
-use Rattle.lisp_base.specs.Reading.{spec_of}
-use Rattle.icr_graph.specs.Kinds.{partners_of}
-use Rattle.graph_building.specs.Built as built
-use Rattle.graph_building.specs.Steps.{Becomes, AddsCont, AddsNode, delivering, pairing}
+-- A new variable changes no block.
+use Rattle.std.proofs.Common.{refl, ap, ◌∙◌}
+use Rattle.std.proofs.lemmas.Result.{on_err_weaker}
+use Rattle.icr_graph.specs.Plain.{graph_of}
+use Rattle.icr_graph.specs.Building.{with_variable}
+use Rattle.graph_building.proofs.Parts.{after_stays, variable_told}
 use Rattle.graph_building.proofs.builder.Builder.variable.Goals as goal
 
--- src/nodes.rt:45:5
 pub invariant_of-self : goal.invariant_of-self
-invariant_of-self c = ?
+invariant_of-self c =
+    after_stays c.add_variable.result (graph_of c.self.inside.graph) (graph_of c.add_variable.new.self) (λ v. with_variable v c.args.variable (graph_of c.self.inside.graph)) c.self.inside.block
+    (λ v. refl) c.add_variable.ensures.ok (on_err_weaker c.add_variable.result (ap graph_of) c.add_variable.ensures.err)
+    ∙ c.self.invariant
 
--- src/nodes.rt:45:5
 pub returns : goal.returns
-returns c = ?
+returns c =
+    rw (← c.self.view_is) (variable_told _ _ refl refl c.add_variable.result c.args.variable c.add_variable.ensures.vacant c.add_variable.ensures.ok)
