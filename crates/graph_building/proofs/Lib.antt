@@ -3,3 +3,4 @@ pub mod Later
 pub mod Entries
 pub mod Edits
 pub mod Parts
+pub mod NewNodes

@@ -10,17 +10,18 @@ use Rattle.icr_graph.specs.declared.faults.EditFault.{EditFault}
 use Rattle.icr_graph.specs.Faults.{is_block, is_edge, link_fault}
 use Rattle.icr_graph.specs.declared.parts.Assertion.{Assertion}
 use Rattle.icr_graph.specs.declared.parts.Block.{Block}
+use Rattle.icr_graph.specs.declared.parts.Defined.{Defined}
 use Rattle.icr_graph.specs.declared.parts.Function.{Function}
 use Rattle.icr_graph.specs.declared.parts.Variable.{Variable}
 use Rattle.icr_graph.specs.Lists.{changed, numbers_of}
 use Rattle.icr_graph.specs.Edits.{followed_by, preceded_by, linked}
-use Rattle.icr_graph.specs.Building.{empty_block, empty_cont, with_block, with_cont, with_variable, with_function, with_assertion, with_lambda, asserting, entry_of_function, beginning_at}
+use Rattle.icr_graph.specs.Building.{empty_block, empty_cont, with_block, with_cont, with_variable, with_function, with_assertion, with_lambda, with_code, asserting, entry_of_function, beginning_at}
 use Rattle.icr_graph.specs.Plain.{Slots, FlowGraph, graph_of, nodes_in, blocks_after}
 use Rattle.graph_meaning.specs.Reading.{assertions_on}
 use Rattle.form_graphs.specs.Spots.{Spot, next, first_of, Ends, Forks, Unasserted, Asserted}
 use Rattle.graph_building.specs.declared.builder.NewFunction.{NewFunction as Added}
 use Rattle.graph_building.specs.Later.{Later, SameForm, Lasting}
-use Rattle.graph_building.specs.Built.{Built, graph, spot, Grown, Beside, Begins, NewCont, FreeCont, AssertedCont, GoesOn, ForksTo, NewVariable, NewFunction, NewLambda}
+use Rattle.graph_building.specs.Built.{Built, graph, spot, own_code, IsBegun, Beside, Begins, NewCont, FreeCont, AssertedCont, GoesOn, ForksTo, NewVariable, NewFunction, NewLambda}
 use Rattle.graph_building.specs.Steps.{AddsCont, AddsFunction, IsOpen, with_code_at}
 use Rattle.graph_building.proofs.Entries.{entry_now, changed_now, changed_other, changed_reads, entry_reads}
 use Rattle.graph_building.proofs.Later.{same_node_refl, same_block_refl, later_refl, end_lasts, ends_by_length, unasserted_lasts, asserted_lasts}
@@ -255,3 +256,52 @@ pub function_told : {E : Type 0} (a b : Built) → b.block ≡ a.block → b.fre
     IfOk r (λ f. AddsFunction function (graph a) (graph b) f.function f.block) → IfOk r (λ f. NewFunction function a b f.function f.block)
 function_told a b block_is fresh_is (Ok f) function none adds = new_function a b block_is f.function f.block function none fresh_is adds
 function_told a b block_is fresh_is (Err e) function none adds = tt
+
+pub forks_told : {E : Type 0} (a b : Built) (r : Result (Unit {0}) E) (m : FlowGraph) (yes_block no_block : ℕ) → b.block ≡ yes_block → b.fresh ≡ a.fresh → blocks_after (graph a) a.block ≡ [] → IsOpen (graph a) yes_block →
+    link_fault (graph a) a.block yes_block ≡ None → m ≡ linked a.block yes_block (graph a) → OnOk r (link_fault m a.block no_block ≡ None) → OnOk r (graph b ≡ linked a.block no_block m) → OnOk r (ForksTo yes_block no_block a b)
+forks_told a b (Ok u) m yes_block no_block block_is fresh_is none found allowed once allowed_too is =
+    forks_to a b yes_block no_block block_is fresh_is none found allowed
+    (ap (λ (g : FlowGraph). link_fault g a.block no_block) (sym once) ∙ allowed_too)
+    (is ∙ ap (linked a.block no_block) once)
+forks_told a b (Err e) m yes_block no_block block_is fresh_is none found allowed once allowed_too is = tt
+
+-- ---- a graph that is begun
+
+pub code_after : (g : FlowGraph) (f n : ℕ) (function : Function) (b : ℕ) → g.block n ≡ None → blocks_after (with_code_at f n function g) b ≡ blocks_after g b
+code_after g f n function b vacant =
+    changed_reads (λ (x : Block). x.after) (entry_of_function f) n (with_entry g.block n (Some empty_block)) b (λ x. refl)
+    ∙ entry_reads (λ (x : Block). x.after) g.block n empty_block b vacant refl
+
+code_begins : (g : FlowGraph) (f n : ℕ) (function : Function) → nodes_in (with_code_at f n function g) n ≡ []
+code_begins g f n function =
+    changed_reads (λ (x : Block). x.nodes) (entry_of_function f) n (with_entry g.block n (Some empty_block)) n (λ x. refl)
+    ∙ ap (numbers_of (λ (x : Block). x.nodes)) (entry_now g.block n (Some empty_block))
+
+-- a graph with nothing in it
+abbrev pub nothing : (size copies : ℕ) → Option Defined → Slots
+nothing size copies defines =
+    record { nodes = []; conts = []; blocks = []; functions = []; variables = []; size = size; copies = copies; lambdas = []; code = None; defines = defines }
+
+pub is_begun : (b : Built) (size copies : ℕ) (defines : Option Defined) (place : Place) (function : Function) (m : FlowGraph) (f n : ℕ) → b.block ≡ n → function ≡ record (own_code place 0) { entries = [] } →
+    AddsFunction function (graph_of (nothing size copies defines)) m f n → graph b ≡ with_code f m → IsBegun size copies defines place b
+is_begun b size copies defines place function m f n block_is function_is adds is =
+    record {
+      size = ap (λ (g : FlowGraph). g.size) all;
+      copies = ap (λ (g : FlowGraph). g.copies) all;
+      lambdas = ap (λ (g : FlowGraph). g.lambdas) all;
+      defines = ap (λ (g : FlowGraph). g.defines) all;
+      code = f;
+      is = ap (λ (g : FlowGraph). g.code) all;
+      function = λ h later. later.functions f _ there;
+      at = spot_is b n [] block_is (ap (λ (g : FlowGraph). nodes_in g n) all ∙ code_begins (graph_of (nothing size copies defines)) f n function) ∙ ap first_of (sym block_is);
+    }
+  where
+    all : graph b ≡ with_code f (with_code_at f n function (graph_of (nothing size copies defines)))
+    all = is ∙ ap (with_code f) adds.is
+
+    there : (graph b).function f ≡ Some (own_code place b.block)
+    there =
+        ap (λ (g : FlowGraph). g.function f) is
+        ∙ function_there (graph_of (nothing size copies defines)) m f n function (ap (λ (x : Function). x.entries) function_is) adds.is
+        ∙ ap (λ (x : Function). Some (record x { entries = n ∷ [] })) function_is
+        ∙ ap (λ (block : ℕ). Some (own_code place block)) (sym block_is)

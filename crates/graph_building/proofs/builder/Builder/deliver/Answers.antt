@@ -1,10 +1,12 @@
-use Rattle.std.proofs.Common.{rules, ◌≡◌, ◌≤◌, suc, [], None, IfOk, OnOk, ℕ, ◌+◌, ◌-◌, ◌*◌, ◌<◌, length, ◌/◌, ◌%◌, Bool, true, false, nat_eq, nat_lt, List, ◌∷◌, ◌++◌, slice_index_or, slice_set, bit_and, bit_or, Fits, w8, w32, w64, Bor, MutBor}
-use Rattle.lisp_base.specs.Reading.{spec_of}
-use Rattle.icr_graph.specs.Kinds.{partners_of}
-use Rattle.graph_building.specs.Built as built
-use Rattle.graph_building.specs.Steps.{Becomes, AddsCont, AddsNode, delivering, pairing}
+-- A delivery changes no block.
+use Rattle.std.proofs.Common.{refl, ◌∙◌}
+use Rattle.icr_graph.specs.Plain.{graph_of}
+use Rattle.icr_graph.specs.Building.{delivered}
+use Rattle.graph_building.proofs.Parts.{after_stays}
 use Rattle.graph_building.proofs.builder.Builder.deliver.Goals as goal
 
--- src/nodes.rt:109:27
 pub invariant_of-self : goal.invariant_of-self
-invariant_of-self c = ?
+invariant_of-self c =
+    after_stays c.deliver.result (graph_of c.self.inside.graph) (graph_of c.deliver.new.self) (λ u. delivered c.args.node c.in-Some.cont (graph_of c.self.inside.graph)) c.self.inside.block
+    (λ u. refl) c.deliver.ensures.ok c.deliver.ensures.err
+    ∙ c.self.invariant

@@ -1,12 +1,18 @@
-use Rattle.std.proofs.Common.{rules, ◌≡◌, ℕ, [], None, Some, IfOk, ◌+◌, ◌-◌, ◌*◌, ◌<◌, ◌≤◌, length, ◌/◌, ◌%◌, Bool, true, false, nat_eq, nat_lt, List, ◌∷◌, ◌++◌, slice_index_or, slice_set, bit_and, bit_or, Fits, w8, w32, w64, Bor, MutBor}
-use Rattle.graph_meaning.specs.Reading.{variable_of_entry}
-use Rattle.graph_building.specs.Built as built
+-- Nothing stands in the graph but the function of the form's own code.
+use Rattle.std.proofs.Common.{◌≡◌, refl, ap, ◌∙◌, rules}
+use Rattle.icr_graph.specs.Plain.{FlowGraph, Slots, graph_of, blocks_after}
+use Rattle.icr_graph.specs.Building.{with_code}
+use Rattle.graph_building.proofs.Parts.{is_begun}
 use Rattle.graph_building.proofs.builder.Builder.new.Goals as goal
 
--- src/builder.rt:101:9
 pub invariant_of-result : goal.invariant_of-result
-invariant_of-result c = ?
+invariant_of-result c =
+    let is : graph_of c.set_code.new.self ≡ with_code c.in_ok-code.code.function (graph_of c.begin_function.new.graph) = search rules in
+    ap (λ (g : FlowGraph). blocks_after g c.in_ok-code.code.block) is
+    ∙ c.in_ok-code.ensures.edges c.in_ok-code.code.block
+    ∙ ap (λ (s : Slots). blocks_after (graph_of s) c.in_ok-code.code.block) c.new-graph.ensures
 
--- src/builder.rt:89:5
 pub returns : goal.returns
-returns c = ?
+returns c =
+    let is : graph_of c.set_code.new.self ≡ with_code c.in_ok-code.code.function (graph_of c.begin_function.new.graph) = search rules in
+    is_begun _ c.args.size c.args.copies c.args.defines c.args.place c.own_code.result (graph_of c.begin_function.new.graph) c.in_ok-code.code.function c.in_ok-code.code.block refl c.own_code.ensures ? is

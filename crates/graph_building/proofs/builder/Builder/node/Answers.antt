@@ -1,10 +1,6 @@
-use Rattle.std.proofs.Common.{rules, ◌≡◌, ◌≤◌, suc, [], None, IfOk, OnOk, ℕ, ◌+◌, ◌-◌, ◌*◌, ◌<◌, length, ◌/◌, ◌%◌, Bool, true, false, nat_eq, nat_lt, List, ◌∷◌, ◌++◌, slice_index_or, slice_set, bit_and, bit_or, Fits, w8, w32, w64, Bor, MutBor}
-use Rattle.lisp_base.specs.Reading.{spec_of}
-use Rattle.icr_graph.specs.Kinds.{partners_of}
-use Rattle.graph_building.specs.Built as built
-use Rattle.graph_building.specs.Steps.{Becomes, AddsCont, AddsNode, delivering, pairing}
+-- The node stands where it was added.
+use Rattle.graph_building.proofs.NewNodes.{new_node}
 use Rattle.graph_building.proofs.builder.Builder.node.Goals as goal
 
--- src/nodes.rt:129:5
 pub returns : goal.returns
-returns c = ?
+returns c = new_node c.args.self.now c.add.new.self c.deliver.new.self c.in_ok-node.node c.args.kind c.args.to c.args.place c.args.charges c.in_ok-node.ensures c.in_ok-deliver.ensures

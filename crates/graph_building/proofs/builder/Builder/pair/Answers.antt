@@ -1,10 +1,12 @@
-use Rattle.std.proofs.Common.{rules, ◌≡◌, ◌≤◌, suc, [], None, IfOk, OnOk, ℕ, ◌+◌, ◌-◌, ◌*◌, ◌<◌, length, ◌/◌, ◌%◌, Bool, true, false, nat_eq, nat_lt, List, ◌∷◌, ◌++◌, slice_index_or, slice_set, bit_and, bit_or, Fits, w8, w32, w64, Bor, MutBor}
-use Rattle.lisp_base.specs.Reading.{spec_of}
-use Rattle.icr_graph.specs.Kinds.{partners_of}
-use Rattle.graph_building.specs.Built as built
-use Rattle.graph_building.specs.Steps.{Becomes, AddsCont, AddsNode, delivering, pairing}
+-- An exit that gets its entry changes no block.
+use Rattle.std.proofs.Common.{refl, ◌∙◌}
+use Rattle.icr_graph.specs.Plain.{graph_of}
+use Rattle.icr_graph.specs.Building.{paired}
+use Rattle.graph_building.proofs.Parts.{after_stays}
 use Rattle.graph_building.proofs.builder.Builder.pair.Goals as goal
 
--- src/nodes.rt:119:28
 pub invariant_of-self : goal.invariant_of-self
-invariant_of-self c = ?
+invariant_of-self c =
+    after_stays c.pair.result (graph_of c.self.inside.graph) (graph_of c.pair.new.self) (λ u. paired c.args.exit c.in-Some.entry (graph_of c.self.inside.graph)) c.self.inside.block
+    (λ u. refl) c.pair.ensures.ok c.pair.ensures.err
+    ∙ c.self.invariant
