@@ -48,7 +48,7 @@ pub beside_of : (a b : Built) → Later (graph a) (graph b) → SameForm (graph 
 beside_of a b later form fresh block nodes = record { grown = record { later = later; form = form; fresh = fresh }; same = spot_is b a.block _ block nodes }
 
 -- what is so of a graph is so of one that equals it
-later_at : (g h i : FlowGraph) → h ≡ i → Later g i → Later g h
+pub later_at : (g h i : FlowGraph) → h ≡ i → Later g i → Later g h
 later_at g h i same later = subst (λ (j : FlowGraph). Later g j) (sym same) later
 
 -- what is kept of the form, as the edits say
@@ -231,8 +231,12 @@ pub after_stays : {T E : Type 0} (r : Result T E) (g h : FlowGraph) (edited : T 
 after_stays (Ok x) g h edited b kept is same = ap (λ (j : FlowGraph). blocks_after j b) is ∙ kept x
 after_stays (Err e) g h edited b kept is same = ap (λ (j : FlowGraph). blocks_after j b) same
 
+-- a new block is not after another, and no block is after it
+pub block_after : (g : FlowGraph) (n b : ℕ) → g.block n ≡ None → blocks_after (with_block n g) b ≡ blocks_after g b
+block_after g n b vacant = entry_reads (λ (x : Block). x.after) g.block n empty_block b vacant refl
+
 pub after_stays_block : {E : Type 0} (r : Result ℕ E) (g h : FlowGraph) (b : ℕ) → IfOk r (λ n. g.block n ≡ None) → IfOk r (λ n. h ≡ with_block n g) → OnErr r (h ≡ g) → blocks_after h b ≡ blocks_after g b
-after_stays_block (Ok n) g h b vacant is same = ap (λ (j : FlowGraph). blocks_after j b) is ∙ entry_reads (λ (x : Block). x.after) g.block n empty_block b vacant refl
+after_stays_block (Ok n) g h b vacant is same = ap (λ (j : FlowGraph). blocks_after j b) is ∙ block_after g n b vacant
 after_stays_block (Err e) g h b vacant is same = ap (λ (j : FlowGraph). blocks_after j b) same
 
 module _ {E : Type 0} (a b : Built) (block_is : b.block ≡ a.block) (fresh_is : b.fresh ≡ a.fresh) where

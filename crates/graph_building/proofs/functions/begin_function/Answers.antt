@@ -2,7 +2,7 @@
 use Rattle.std.proofs.Common.{◌≡◌, ℕ, None, refl, sym, ap, ◌∙◌, rules}
 use Rattle.icr_graph.specs.Plain.{FlowGraph, Slots, graph_of, blocks_after}
 use Rattle.icr_graph.specs.Building.{with_block, with_function, entered_at}
-use Rattle.graph_building.proofs.Parts.{code_after}
+use Rattle.graph_building.proofs.Parts.{block_after, code_after}
 use Rattle.graph_building.proofs.functions.begin_function.Goals as goal
 
 pub returns-in_err-block-clause-edges : goal.returns-in_err-block-clause-edges
@@ -14,7 +14,9 @@ pub returns-in_err-map_err-clause-edges : goal.returns-in_err-map_err-clause-edg
 returns-in_err-map_err-clause-edges c =
     let function_is : graph_of c.add_function.new.self ≡ with_function c.in_ok-function.function c.args.function (graph_of c.args.graph.now) = search rules in
     let same : graph_of c.add_entry.new.self ≡ graph_of c.add_block.new.self = search rules in
-    λ b. ap (λ (g : FlowGraph). blocks_after g b) (same ∙ c.in_ok-block.ensures.ok) ∙ ?
+    λ b. ap (λ (g : FlowGraph). blocks_after g b) (same ∙ c.in_ok-block.ensures.ok)
+    ∙ block_after (graph_of c.add_function.new.self) c.in_ok-block.block b c.in_ok-block.ensures.vacant
+    ∙ ap (λ (g : FlowGraph). blocks_after g b) function_is
 
 pub returns-clause-added : goal.returns-clause-added
 returns-clause-added c =

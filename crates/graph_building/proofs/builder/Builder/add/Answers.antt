@@ -9,5 +9,5 @@ use Rattle.graph_building.proofs.builder.Builder.add.Goals as goal
 pub invariant_of-self : goal.invariant_of-self
 invariant_of-self c =
     after_stays c.add_node.result (graph_of c.self.inside.graph) (graph_of c.add_node.new.self) (λ n. with_node n (bare_node c.args.kind c.self.inside.block c.args.place c.args.charges) (graph_of c.self.inside.graph)) c.self.inside.block
-    (λ n. node_after (graph_of c.self.inside.graph) n _ c.self.inside.block) c.add_node.ensures.ok c.add_node.ensures.err
+    (λ n. node_after (graph_of c.self.inside.graph) n (bare_node c.args.kind c.self.inside.block c.args.place c.args.charges) c.self.inside.block) c.add_node.ensures.ok c.add_node.ensures.err
     ∙ c.self.invariant

@@ -15,4 +15,4 @@ invariant_of-result c =
 pub returns : goal.returns
 returns c =
     let is : graph_of c.set_code.new.self ≡ with_code c.in_ok-code.code.function (graph_of c.begin_function.new.graph) = search rules in
-    is_begun _ c.args.size c.args.copies c.args.defines c.args.place c.own_code.result (graph_of c.begin_function.new.graph) c.in_ok-code.code.function c.in_ok-code.code.block refl c.own_code.ensures ? is
+    is_begun _ c.args.size c.args.copies c.args.defines c.args.place c.own_code.result (graph_of c.begin_function.new.graph) c.in_ok-code.code.function c.in_ok-code.code.block refl c.own_code.ensures (rw c.new-graph.ensures at c.in_ok-code.ensures.added) is
