@@ -28,8 +28,8 @@ same_places x y z nodes_same after_same kept =
       more = kept.more;
       nodes = nodes_same ∙ kept.nodes;
       ended = λ (h : x.after ≢ []).
-      let same : (y.nodes ≡ x.nodes) × (y.after ≡ x.after) = kept.ended h in
-      (nodes_same ∙ same.0, after_same ∙ same.1);
+          let same : (y.nodes ≡ x.nodes) × (y.after ≡ x.after) = kept.ended h in
+          (nodes_same ∙ same.0, after_same ∙ same.1);
     }
 
 -- more nodes, or blocks after it, of a block that no block follows
@@ -87,9 +87,9 @@ asserted_later g k assertion vacant =
     record {
       nodes = λ n x e. (x, e, same_node_refl x);
       conts = λ j x e.
-      let other : j ≢ k = other_number g.cont k j x vacant e in
-      changed_has (λ (y : Cont). y.asserts ≡ x.asserts) (asserting assertion) k (with_entry g.cont k (Some empty_cont)) j (λ same. absurd (other same))
-      (entry_has (λ (y : Cont). y.asserts ≡ x.asserts) g.cont k j (Some empty_cont) other (x, e, refl));
+          let other : j ≢ k = other_number g.cont k j x vacant e in
+          changed_has (λ (y : Cont). y.asserts ≡ x.asserts) (asserting assertion) k (with_entry g.cont k (Some empty_cont)) j (λ same. absurd (other same))
+          (entry_has (λ (y : Cont). y.asserts ≡ x.asserts) g.cont k j (Some empty_cont) other (x, e, refl));
       blocks = λ b x e. (x, e, same_block_refl x);
       functions = λ f x e. e;
       variables = λ v x e. e;
@@ -111,11 +111,11 @@ function_later g f b function vacant no_block =
       nodes = λ n x e. (x, e, same_node_refl x);
       conts = λ k x e. (x, e, refl);
       blocks = λ c x e.
-      changed_has (SameBlock x) (entry_of_function f) b (with_entry g.block b (Some empty_block)) c (λ same y kept. same_places x y (entry_of_function f y) refl refl kept)
-      (entry_has (SameBlock x) g.block b c (Some empty_block) (other_number g.block b c x no_block e) (x, e, same_block_refl x));
+          changed_has (SameBlock x) (entry_of_function f) b (with_entry g.block b (Some empty_block)) c (λ same y kept. same_places x y (entry_of_function f y) refl refl kept)
+          (entry_has (SameBlock x) g.block b c (Some empty_block) (other_number g.block b c x no_block e) (x, e, same_block_refl x));
       functions = λ h x e.
-      let other : h ≢ f = other_number g.function f h x vacant e in
-      changed_other (beginning_at b) f (with_entry g.function f (Some function)) h other ∙ entry_other g.function f h (Some function) other ∙ e;
+          let other : h ≢ f = other_number g.function f h x vacant e in
+          changed_other (beginning_at b) f (with_entry g.function f (Some function)) h other ∙ entry_other g.function f h (Some function) other ∙ e;
       variables = λ v x e. e;
     }
 
@@ -196,12 +196,12 @@ module _ (g : FlowGraph) (n : ℕ) (nd : Node) (vacant : g.node n ≡ None) (non
       let rest = joined_rest n entry to (with_node n nd g) in
       record {
         nodes = λ m x e.
-        let other : m ≢ n = other_number g.node n m x vacant e in
-        delivering_keeps n to (pairing n entry (with_node n nd g)) m x other
-        (pairing_keeps n entry (with_node n nd g) m x other (entry_has (SameNode x) g.node n m (Some nd) other (x, e, same_node_refl x)));
+            let other : m ≢ n = other_number g.node n m x vacant e in
+            delivering_keeps n to (pairing n entry (with_node n nd g)) m x other
+            (pairing_keeps n entry (with_node n nd g) m x other (entry_has (SameNode x) g.node n m (Some nd) other (x, e, same_node_refl x)));
         conts = λ k x e.
-        delivering_conts n entry to (with_node n nd g) k x
-        (touched_has (λ (y : Cont). y.asserts ≡ x.asserts) (taken_by (Some n)) (operands_of nd.kind) g.cont k (λ y kept. kept) (x, e, refl));
+            delivering_conts n entry to (with_node n nd g) k x
+            (touched_has (λ (y : Cont). y.asserts ≡ x.asserts) (taken_by (Some n)) (operands_of nd.kind) g.cont k (λ y kept. kept) (x, e, refl));
         blocks = λ b x e. subst (λ (m : ℕ → Option Block). There (SameBlock x) (m b)) (sym rest.block) (held_kept b x e);
         functions = λ f x e. ap (λ (m : ℕ → Option Function). m f) rest.function ∙ e;
         variables = λ v x e. ap (λ (m : ℕ → Option Variable). m v) rest.variable ∙ e;

@@ -52,9 +52,9 @@ same_block_trans x y z first then =
       more = first.more ++ then.more;
       nodes = then.nodes ∙ ap (λ (ns : List ℕ). ns ++ then.more) first.nodes ∙ append_assoc x.nodes first.more then.more;
       ended = λ (h : x.after ≢ []).
-      let old : (y.nodes ≡ x.nodes) × (y.after ≡ x.after) = first.ended h in
-      let new : (z.nodes ≡ y.nodes) × (z.after ≡ y.after) = then.ended (λ e. h (sym old.1 ∙ e)) in
-      (new.0 ∙ old.0, new.1 ∙ old.1);
+          let old : (y.nodes ≡ x.nodes) × (y.after ≡ x.after) = first.ended h in
+          let new : (z.nodes ≡ y.nodes) × (z.after ≡ y.after) = then.ended (λ e. h (sym old.1 ∙ e)) in
+          (new.0 ∙ old.0, new.1 ∙ old.1);
     }
 
 -- ---- graphs
@@ -73,17 +73,17 @@ pub later_trans : (g h i : FlowGraph) → Later g h → Later h i → Later g i
 later_trans g h i first then =
     record {
       nodes = λ n x e.
-      let y = first.nodes n x e in
-      let z = then.nodes n y.0 y.1 in
-      (z.0, z.1, same_node_trans x y.0 z.0 y.2 z.2);
+          let y = first.nodes n x e in
+          let z = then.nodes n y.0 y.1 in
+          (z.0, z.1, same_node_trans x y.0 z.0 y.2 z.2);
       conts = λ k x e.
-      let y = first.conts k x e in
-      let z = then.conts k y.0 y.1 in
-      (z.0, z.1, z.2 ∙ y.2);
+          let y = first.conts k x e in
+          let z = then.conts k y.0 y.1 in
+          (z.0, z.1, z.2 ∙ y.2);
       blocks = λ b x e.
-      let y = first.blocks b x e in
-      let z = then.blocks b y.0 y.1 in
-      (z.0, z.1, same_block_trans x y.0 z.0 y.2 z.2);
+          let y = first.blocks b x e in
+          let z = then.blocks b y.0 y.1 in
+          (z.0, z.1, same_block_trans x y.0 z.0 y.2 z.2);
       functions = λ f x e. then.functions f x (first.functions f x e);
       variables = λ v x e. then.variables v x (first.variables v x e);
     }

@@ -108,11 +108,12 @@ module _ (a b : Built) (n : ℕ) (k j : NodeKind) (place : Place) (c : Charges) 
   joined_next = spot_is b a.block _ block_is nodes_are ∙ ap (λ (i : ℕ). record { block = a.block; index = i }) (length_more (nodes_in (graph a) a.block) n)
 
   pub joined_here : Here (graph b) (spot a) j to place c.cost (passes_of c)
-  joined_here =
-      (a.block,
-      ap (λ (ns : List ℕ). named (graph b).node (slice_get ns (length (nodes_in (graph a) a.block)))) nodes_are
-      ∙ ap (named (graph b).node) (last_of (nodes_in (graph a) a.block) n)
-      ∙ there)
+  joined_here = (
+    a.block,
+    ap (λ (ns : List ℕ). named (graph b).node (slice_get ns (length (nodes_in (graph a) a.block)))) nodes_are
+        ∙ ap (named (graph b).node) (last_of (nodes_in (graph a) a.block) n)
+        ∙ there,
+  )
 
 -- ---- nodes and exits
 
@@ -143,7 +144,7 @@ new_exit a m l b n way entry to place c adds paired_too joined =
       grown = joined_grown a b n (kind.Exit way None) (kind.Exit way entry) place c entry to adds.vacant adds.live adds.after block_is fresh_is is there;
       next = joined_next a b n (kind.Exit way None) (kind.Exit way entry) place c entry to adds.vacant adds.live adds.after block_is fresh_is is there;
       stands = here_stays (graph b) (spot a) (kind.Exit way entry) to place c.cost (passes_of c) (λ j same. same)
-      (joined_here a b n (kind.Exit way None) (kind.Exit way entry) place c entry to adds.vacant adds.live adds.after block_is fresh_is is there);
+          (joined_here a b n (kind.Exit way None) (kind.Exit way entry) place c entry to adds.vacant adds.live adds.after block_is fresh_is is there);
     }
 
 -- ---- as the calls tell it

@@ -144,7 +144,7 @@ module _ (a b : Built) (block_is : b.block ≡ a.block) where
   new_function f n function none fresh adds =
       record {
         beside = beside_of a b (later_at _ _ _ adds.is (function_later (graph a) f n function adds.vacant adds.no_block)) (form_at _ _ _ adds.is refl refl refl refl refl) (omega arith) block_is
-        (ap (λ (g : FlowGraph). nodes_in g a.block) adds.is ∙ same_nodes);
+            (ap (λ (g : FlowGraph). nodes_in g a.block) adds.is ∙ same_nodes);
         there = λ h later. later.functions f _ (function_there (graph a) (graph b) f n function none adds.is);
       }
     where
@@ -198,7 +198,7 @@ goes_on a b to start block_is fresh none found allowed is =
       grown = record { later = later_at _ _ _ is (linked_later (graph a) a.block none to); form = form_at _ _ _ is refl refl refl refl refl; fresh = omega arith };
       at = spot_is b start [] block_is (nodes_are start ∙ found.nodes);
       ends = ends_by_length (graph b) (spot a) to (past_the_end (nodes_in (graph a) a.block) _ (nodes_are a.block))
-      (ap (λ (g : FlowGraph). blocks_after g a.block) is ∙ linked_after (graph a) a.block to allowed ∙ ap (λ (bs : List ℕ). bs ++ to ∷ []) none);
+          (ap (λ (g : FlowGraph). blocks_after g a.block) is ∙ linked_after (graph a) a.block to allowed ∙ ap (λ (bs : List ℕ). bs ++ to ∷ []) none);
     }
   where
     nodes_are : (n : ℕ) → nodes_in (graph b) n ≡ nodes_in (graph a) n
@@ -212,7 +212,7 @@ forks_to a b yes_block no_block block_is fresh none found allowed allowed_too is
       grown = record { later = later_at _ _ _ is (forked_later (graph a) a.block none yes_block no_block); form = form_at _ _ _ is refl refl refl refl refl; fresh = omega arith };
       at = spot_is b yes_block [] block_is (nodes_are yes_block ∙ found.nodes);
       forks = λ p behind. subst (λ (q : Spot). Lasting (λ h. (slice_get (nodes_in h q.block) q.index ≡ None) × (blocks_after h q.block ≡ yes_block ∷ no_block ∷ [])) (graph b)) (sym behind)
-      (end_lasts (graph b) (spot a) yes_block (no_block ∷ []) (past_the_end (nodes_in (graph a) a.block) _ (nodes_are a.block)) after_is);
+          (end_lasts (graph b) (spot a) yes_block (no_block ∷ []) (past_the_end (nodes_in (graph a) a.block) _ (nodes_are a.block)) after_is);
     }
   where
     nodes_are : (n : ℕ) → nodes_in (graph b) n ≡ nodes_in (graph a) n

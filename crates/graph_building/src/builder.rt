@@ -30,8 +30,11 @@ impl Model for Builder {
     ghost use Rattle.lisp_base.specs.contracts.types.TypeSpec as type_spec;
 
     ghost Value = { Built };
+
     ghost view = { λ b. record { slots = b.graph; block = b.block; fresh = b.fresh } };
+
     ghost coded = { Prim.hlevel (codes, type_spec.the_row.coded) };
+
     ghost invariant = { λ b. blocks_after (graph_of b.graph) b.block ≡ [] };
 }
 

@@ -5,5 +5,7 @@ mod builder;
 mod flow;
 mod functions;
 mod nodes;
+#[cfg(test)]
+mod tests;
 
 pub use builder::{Builder, NewFunction};

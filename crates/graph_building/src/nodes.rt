@@ -87,12 +87,7 @@ impl Builder {
     }
 
     // Adds a node, which delivers nowhere yet.
-    fn add(
-        &mut self,
-        kind: NodeKind,
-        place: Place,
-        charges: Charges,
-    ) -> Result<NodeId, AllocError>
+    fn add(&mut self, kind: NodeKind, place: Place, charges: Charges) -> Result<NodeId, AllocError>
         requires { partners_of kind ≡ [] }
         ensures { IfOk result (AddsNode (record { kind = kind; cont = None; block = self.old.block; place = place; charges = charges }) self.old self.new) }
     {
