@@ -12,12 +12,12 @@ use Rattle.icr_graph.specs.Lists.{numbers_of, changed, touched}
 use Rattle.ir_ids.specs.Entries.{with_entry}
 use Rattle.icr_graph.specs.Kinds.{operands_of, arrivals_of}
 use Rattle.icr_graph.specs.Edits.{followed_by, preceded_by, linked, taken_by}
-use Rattle.icr_graph.specs.Building.{empty_block, empty_cont, with_block, with_cont, with_variable, with_function, holding, arriving_from, with_node, delivering_to, used_by, delivered, asserting, with_assertion, beginning_at, entry_of_function, naming_exit, leaving_entry, left_by_exit, paired}
-use Rattle.icr_graph.specs.Plain.{FlowGraph, nodes_in, blocks_after}
+use Rattle.icr_graph.specs.Building.{empty_block, empty_cont, with_block, with_cont, with_variable, holding, arriving_from, with_node, delivering_to, used_by, asserting, with_assertion, beginning_at, entry_of_function, naming_exit, leaving_entry, left_by_exit}
+use Rattle.icr_graph.specs.Plain.{FlowGraph, blocks_after}
 use Rattle.graph_building.specs.Later.{SameKind, SameNode, SameBlock, Later, SameForm}
 use Rattle.graph_building.specs.Steps.{delivering, pairing, with_code_at}
 use Rattle.graph_building.proofs.Entries.{There, other_number, entry_other, changed_other, changed_has, touched_has, entry_has}
-use Rattle.graph_building.proofs.Later.{same_kind_refl, same_kind_trans, same_node_refl, same_block_refl, later_refl}
+use Rattle.graph_building.proofs.Later.{same_kind_trans, same_node_refl, same_block_refl}
 
 -- ---- what one change keeps of a block or a node
 

@@ -1,5 +1,5 @@
 -- Maps of which entries are changed. (This project's own.)
-use Rattle.std.proofs.Common.{◌≡◌, ◌≢◌, ◌⊎◌, ℕ, Bool, true, false, ◌==◌, List, [], if◌then◌else◌, Option, Some, None, option_map, refl, ap, subst, ◌∙◌, sym, inl, inr, eq-eqb, ne_eqb}
+use Rattle.std.proofs.Common.{◌≡◌, ◌≢◌, ◌⊎◌, ℕ, Bool, true, false, ◌==◌, List, [], if◌then◌else◌, Option, Some, None, option_map, refl, ap, ◌∙◌, sym, inl, inr, eq-eqb, ne_eqb}
 use Rattle.std.proofs.lemmas.Bool.{cases_eq}
 use Rattle.ir_ids.specs.Entries.{with_entry}
 use Rattle.icr_graph.specs.Lists.{has_number, numbers_of, changed, touched}

@@ -1,5 +1,5 @@
 -- What stands in a graph stands in all that it becomes. (This project's own.)
-use Rattle.std.proofs.Common.{◌≡◌, ◌≢◌, ◌≤◌, ℕ, zero, suc, Bool, true, false, ◌==◌, ◌||◌, List, [], ◌∷◌, ◌++◌, length, Option, Some, None, refl, sym, ap, subst, ◌∙◌, append-nil, append_assoc, eq-eqb, arith}
+use Rattle.std.proofs.Common.{◌≡◌, ◌≢◌, ℕ, zero, suc, Bool, true, false, ◌==◌, ◌||◌, List, [], ◌∷◌, ◌++◌, Option, Some, None, refl, sym, ap, subst, ◌∙◌, append-nil, append_assoc, eq-eqb, arith}
 use Rattle.std.specs.Prelude.{slice_get}
 use Rattle.std.proofs.lemmas.Option.{same_Some}
 use Rattle.lisp_base.specs.declared.values.Place.{Place}
@@ -11,7 +11,6 @@ use Rattle.icr_graph.specs.declared.nodes.NodeKind.{NodeKind}
 use Rattle.icr_graph.specs.declared.nodes.NodeKind.TheVariants as kind
 use Rattle.icr_graph.specs.declared.parts.Block.{Block}
 use Rattle.icr_graph.specs.declared.parts.Cont.{Cont}
-use Rattle.icr_graph.specs.declared.parts.Variable.{Variable}
 use Rattle.icr_graph.specs.Lists.{has_number, numbers_of}
 use Rattle.icr_graph.specs.Plain.{FlowGraph, nodes_in, blocks_after, block_of}
 use Rattle.icr_graph.specs.Whole.{IsWhole}

@@ -13,8 +13,7 @@ use Rattle.icr_graph.specs.Kinds.{arrivals_of}
 use Rattle.icr_graph.specs.Building.{holding, arriving_from, with_node, delivering_to, naming_entry, naming_exit, leaving_entry, left_by_exit}
 use Rattle.icr_graph.specs.Plain.{FlowGraph, nodes_in, blocks_after}
 use Rattle.graph_meaning.specs.Reading.{named}
-use Rattle.form_graphs.specs.Spots.{Spot, next, Here}
-use Rattle.graph_building.specs.Later.{SameKind}
+use Rattle.form_graphs.specs.Spots.{next, Here}
 use Rattle.graph_building.specs.Built.{Built, graph, spot, Grown, passes_of, NewNode, NewExit}
 use Rattle.graph_building.specs.Steps.{Becomes, AddsNode, delivering, pairing}
 use Rattle.graph_building.proofs.Entries.{entry_now, changed_now, changed_reads, touched_reads}

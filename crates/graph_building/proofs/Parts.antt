@@ -1,5 +1,5 @@
 -- What the steps of a call add: blocks, variables, continuations and functions, and edges. (This project's own.)
-use Rattle.std.proofs.Common.{◌≡◌, ◌≢◌, ◌≤◌, ℕ, suc, Bool, true, false, not, ◌&&◌, if◌then◌else◌, List, [], ◌∷◌, ◌++◌, length, Option, Some, None, option_map, is_some, refl, sym, ap, subst, ◌∙◌, arith}
+use Rattle.std.proofs.Common.{◌≡◌, ◌≢◌, ◌≤◌, ℕ, Bool, true, false, not, ◌&&◌, if◌then◌else◌, List, [], ◌∷◌, ◌++◌, length, Option, Some, None, option_map, is_some, refl, sym, ap, subst, ◌∙◌, arith}
 use Rattle.std.specs.Prelude.{slice_get, Result, Ok, Err, IfOk, OnOk, OnErr}
 use Rattle.std.proofs.lemmas.Option.{slice_get_past}
 use Rattle.lisp_base.specs.declared.values.Place.{Place}
@@ -15,13 +15,13 @@ use Rattle.icr_graph.specs.declared.parts.Function.{Function}
 use Rattle.icr_graph.specs.declared.parts.Variable.{Variable}
 use Rattle.icr_graph.specs.Lists.{changed, numbers_of}
 use Rattle.icr_graph.specs.Edits.{followed_by, preceded_by, linked}
-use Rattle.icr_graph.specs.Building.{empty_block, empty_cont, with_block, with_cont, with_variable, with_function, with_assertion, with_lambda, with_code, asserting, entry_of_function, beginning_at}
+use Rattle.icr_graph.specs.Building.{empty_block, empty_cont, with_block, with_cont, with_variable, with_assertion, with_lambda, with_code, asserting, entry_of_function, beginning_at}
 use Rattle.icr_graph.specs.Plain.{Slots, FlowGraph, graph_of, nodes_in, blocks_after}
 use Rattle.graph_meaning.specs.Reading.{assertions_on}
-use Rattle.form_graphs.specs.Spots.{Spot, next, first_of, Ends, Forks, Unasserted, Asserted}
+use Rattle.form_graphs.specs.Spots.{Spot, first_of}
 use Rattle.graph_building.specs.declared.builder.NewFunction.{NewFunction as Added}
 use Rattle.graph_building.specs.Later.{Later, SameForm, Lasting}
-use Rattle.graph_building.specs.Built.{Built, graph, spot, own_code, IsBegun, Beside, Begins, NewCont, FreeCont, AssertedCont, GoesOn, ForksTo, NewVariable, NewFunction, NewLambda}
+use Rattle.graph_building.specs.Built.{Built, graph, spot, own_code, IsBegun, Beside, Begins, FreeCont, AssertedCont, GoesOn, ForksTo, NewVariable, NewFunction, NewLambda}
 use Rattle.graph_building.specs.Steps.{AddsCont, AddsFunction, IsOpen, with_code_at}
 use Rattle.graph_building.proofs.Entries.{entry_now, changed_now, changed_other, changed_reads, entry_reads}
 use Rattle.graph_building.proofs.Later.{same_node_refl, same_block_refl, later_refl, end_lasts, ends_by_length, unasserted_lasts, asserted_lasts}

@@ -1,5 +1,5 @@
 -- A function and a block are added, and no edge.
-use Rattle.std.proofs.Common.{◌≡◌, ℕ, None, refl, sym, ap, ◌∙◌, rules}
+use Rattle.std.proofs.Common.{◌≡◌, None, sym, ap, ◌∙◌, rules}
 use Rattle.icr_graph.specs.Plain.{FlowGraph, Slots, graph_of, blocks_after}
 use Rattle.icr_graph.specs.Building.{with_block, with_function, entered_at}
 use Rattle.graph_building.proofs.Parts.{block_after, code_after}

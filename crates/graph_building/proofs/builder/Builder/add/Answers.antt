@@ -1,5 +1,5 @@
 -- A node more leaves the blocks after each block.
-use Rattle.std.proofs.Common.{◌∙◌, None}
+use Rattle.std.proofs.Common.{◌∙◌}
 use Rattle.icr_graph.specs.Plain.{graph_of}
 use Rattle.icr_graph.specs.Building.{with_node}
 use Rattle.graph_building.proofs.Parts.{after_stays}

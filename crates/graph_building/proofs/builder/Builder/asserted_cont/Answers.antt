@@ -1,5 +1,5 @@
 -- An assertion changes no block.
-use Rattle.std.proofs.Common.{◌≡◌, refl, ap, ◌∙◌, true, rules}
+use Rattle.std.proofs.Common.{◌≡◌, ap, ◌∙◌, true, rules}
 use Rattle.icr_graph.specs.Plain.{FlowGraph, graph_of, blocks_after}
 use Rattle.icr_graph.specs.Building.{with_assertion}
 use Rattle.graph_building.specs.Built.{Built, graph}
