@@ -1,0 +1,23 @@
+-- An assertion changes no block.
+use Rattle.std.proofs.Common.{◌≡◌, ap, ◌∙◌, true, rules}
+use Rattle.icr_graph.specs.Plain.{FlowGraph, graph_of, blocks_after}
+use Rattle.icr_graph.specs.Building.{with_assertion}
+use Rattle.graph_building.specs.Built.{Built, graph}
+use Rattle.graph_building.proofs.Parts.{new_asserted}
+use Rattle.graph_building.proofs.builder.Builder.asserted_cont.Goals as goal
+
+pub invariant_of-self : goal.invariant_of-self
+invariant_of-self c =
+    let same : graph_of c.assert_on.new.self ≡ graph_of c.self.inside.graph = search rules in
+    ap (λ (g : FlowGraph). blocks_after g c.self.inside.block) same ∙ c.self.invariant
+
+pub invariant_of-self-2 : goal.invariant_of-self-2
+invariant_of-self-2 c =
+    let is : graph_of c.assert_on.new.self ≡ with_assertion c.in_ok-cont.cont (record { spec = c.args.spec; place = c.args.place; checked = true }) (graph_of c.self.inside.graph) = search rules in
+    ap (λ (g : FlowGraph). blocks_after g c.self.inside.block) is ∙ c.self.invariant
+
+pub returns : goal.returns
+returns c =
+    let is : graph_of c.assert_on.new.self ≡ with_assertion c.in_ok-cont.cont (record { spec = c.args.spec; place = c.args.place; checked = true }) (graph_of c.self.inside.graph) = search rules in
+    new_asserted c.args.self.now c.add_cont.new.self _ c.in_ok-cont.cont c.args.spec c.args.place c.in_ok-cont.ensures
+    (ap (λ (m : Built). m.block) c.self.view_is) (ap (λ (m : Built). m.fresh) c.self.view_is) (is ∙ ap (λ (m : Built). with_assertion c.in_ok-cont.cont (record { spec = c.args.spec; place = c.args.place; checked = true }) (graph m)) c.self.view_is)

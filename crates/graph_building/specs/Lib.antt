@@ -1,0 +1,4 @@
+-- The definitions of this crate.
+pub mod Later
+pub mod Built
+pub mod Steps

@@ -1,0 +1,49 @@
+// Functions added.
+ghost use Rattle.std.specs.Prelude.{◌≡◌, ℕ, [], IfOk, OnOk};
+ghost use Rattle.icr_graph.specs.Plain.{graph_of, blocks_after};
+ghost use Rattle.graph_building.specs.Built as built;
+ghost use Rattle.graph_building.specs.Steps.{AddsFunction};
+
+use crate::builder::{Builder, NewFunction, want_of_memory};
+use icr_graph::{Function, Graph};
+use ir_ids::FunId;
+use std::alloc::{AllocError, Global};
+
+// Adds a function, whose code begins at a new block. No edge is added, also where it fails.
+pub(crate) fn begin_function(
+    graph: &mut Graph,
+    alloc: Global,
+    function: Function,
+) -> Result<NewFunction, AllocError>
+    requires { function.entries ≡ [] }
+    ensures added { IfOk result (λ f. AddsFunction function (graph_of graph.old) (graph_of graph.new) f.function f.block) }
+    ensures edges { (b : ℕ) → blocks_after (graph_of graph.new) b ≡ blocks_after (graph_of graph.old) b }
+{
+    let function = graph.add_function(function).map_err(want_of_memory)?;
+    let block = graph.add_block(alloc)?;
+    graph.add_entry(function, block).map_err(want_of_memory)?;
+    Ok(NewFunction { function, block })
+}
+
+impl Builder {
+    /// Adds a function, whose code begins at a new block.
+    ///
+    /// # Errors
+    /// Want of memory.
+    pub fn function(&mut self, function: Function) -> Result<NewFunction, AllocError>
+        requires { function.entries ≡ [] }
+        ensures { IfOk result (λ f. built.NewFunction function self.old self.new f.function f.block) }
+    {
+        begin_function(&mut self.graph, self.alloc, function)
+    }
+
+    /// Makes a function that of the form's next lambda.
+    ///
+    /// # Errors
+    /// Want of memory.
+    pub fn add_lambda(&mut self, function: FunId) -> Result<(), AllocError>
+        ensures { OnOk result (built.NewLambda function self.old self.new) }
+    {
+        self.graph.add_lambda(function).map_err(want_of_memory)
+    }
+}
