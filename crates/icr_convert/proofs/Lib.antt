@@ -1,0 +1,22 @@
+-- The proofs of this crate.
+pub mod Numbering
+pub mod Atoms
+pub mod Growing
+pub mod Named
+pub mod NodeReading
+pub mod Steps
+pub mod Values
+pub mod Calling
+pub mod Choosing
+pub mod Operands
+pub mod Leaving
+pub mod Letting
+pub mod Tagging
+pub mod Copying
+pub mod Entering
+pub mod FunctionCode
+pub mod ParameterLists
+pub mod Slots
+pub mod Tables
+pub mod Defining
+pub mod WholeForms

@@ -1,0 +1,6 @@
+use Rattle.icr_convert.proofs.Atoms.{global_converts}
+use Rattle.icr_convert.proofs.converter.Converter.global.Goals as goal
+
+pub returns : goal.returns
+returns c =
+    global_converts c.args.names.now c.args.setting c.in_ok-one_more.ensures c.in_ok-leaf.ensures
