@@ -20,3 +20,4 @@ pub mod Slots
 pub mod Tables
 pub mod Defining
 pub mod WholeForms
+pub mod WholePrograms

@@ -4,3 +4,4 @@ pub mod Scene
 pub mod Converting
 pub mod Coding
 pub mod Whole
+pub mod Programs

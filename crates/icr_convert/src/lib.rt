@@ -18,8 +18,10 @@ mod functions;
 mod names;
 mod numbered;
 mod parameters;
+mod programs;
 mod setting;
 mod tagbodies;
 mod whole;
 
+pub use programs::convert_program;
 pub use whole::convert_form;
