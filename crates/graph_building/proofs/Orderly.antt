@@ -1,6 +1,6 @@
 -- Each edit keeps a graph well made while it is built. (This project's own.)
-use Rattle.std.proofs.Common.{◌≡◌, ◌≢◌, ◌≤◌, ◌⊎◌, ℕ, suc, Bool, true, false, ◌&&◌, ◌||◌, List, [], ◌∷◌, ◌++◌, length, Option, Some, None, option_map, is_some, refl, sym, ap, subst, ◌∙◌, inl, inr, arith}
-use Rattle.std.specs.Prelude.{Result, Ok, Err, IfOk, OnOk, OnErr}
+use Rattle.std.proofs.Common.{◌≡◌, ◌≢◌, ◌≤◌, ◌⊎◌, ℕ, Bool, true, false, ◌||◌, List, [], ◌∷◌, ◌++◌, length, Option, Some, None, is_some, refl, sym, ap, subst, ◌∙◌, inl, inr, arith}
+use Rattle.std.specs.Prelude.{Result, Ok, Err, IfOk, OnErr}
 use Rattle.std.specs.List.{list_any, list_all}
 use Rattle.std.proofs.lemmas.Bool.{cases_eq, and_parts, and_from, true≢false}
 use Rattle.ir_ids.specs.Entries.{with_entry}
@@ -16,8 +16,8 @@ use Rattle.icr_graph.specs.Lists.{numbers_of, changed, touched, last_alone}
 use Rattle.icr_graph.specs.Kinds.{operands_of, arrivals_of, is_if}
 use Rattle.icr_graph.specs.Faults.{is_node, link_fault}
 use Rattle.icr_graph.specs.Splitting.{ends_with_if, is_if_node}
-use Rattle.icr_graph.specs.Edits.{followed_by, preceded_by, linked, taken_by}
-use Rattle.icr_graph.specs.Building.{empty_block, empty_cont, with_block, with_cont, with_function, holding, arriving_from, with_node, delivering_to, used_by, delivered, asserting, with_assertion, entry_of_function, naming_entry, naming_exit, leaving_entry, left_by_exit, paired}
+use Rattle.icr_graph.specs.Edits.{linked, taken_by}
+use Rattle.icr_graph.specs.Building.{empty_block, empty_cont, with_block, with_cont, holding, arriving_from, with_node, delivering_to, used_by, delivered, asserting, with_assertion, entry_of_function, naming_entry, naming_exit, leaving_entry, left_by_exit, paired}
 use Rattle.icr_graph.specs.Plain.{FlowGraph, graph_of, nodes_in, blocks_after}
 use Rattle.graph_meaning.specs.Reading.{assertions_on}
 use Rattle.graph_building.specs.Steps.{with_code_at}

@@ -1,5 +1,5 @@
 -- A node more, in the block to which nodes are added, keeps the graph well made.
-use Rattle.std.specs.Prelude.{◌≡◌, ℕ, None}
+use Rattle.std.specs.Prelude.{◌≡◌, None}
 use Rattle.icr_graph.specs.Plain.{graph_of}
 use Rattle.icr_graph.specs.Building.{with_node}
 use Rattle.graph_building.proofs.NewNodes.{bare_node}

@@ -1,10 +1,10 @@
 -- The block that ends had no block after it, and an If as its last node; that to which nodes are added stays without one after it.
-use Rattle.std.proofs.Common.{◌≡◌, ◌≢◌, None, refl, sym, ap, subst, ◌∙◌, true, false, rules}
+use Rattle.std.proofs.Common.{◌≡◌, ◌≢◌, None, refl, sym, ap, ◌∙◌, true, false, rules}
 use Rattle.icr_graph.specs.Plain.{FlowGraph, graph_of}
 use Rattle.icr_graph.specs.Edits.{linked}
 use Rattle.icr_graph.specs.Faults.{link_fault}
 use Rattle.graph_building.specs.Steps.{IsOpen}
-use Rattle.graph_building.specs.Orderly.{EndsWith, Sound}
+use Rattle.graph_building.specs.Orderly.{EndsWith}
 use Rattle.graph_building.proofs.Parts.{forks_to}
 use Rattle.graph_building.proofs.Orderly.{sound_at, half_sound, forks_sound}
 use Rattle.graph_building.proofs.builder.Builder.fork.Goals as goal
@@ -14,8 +14,8 @@ invariant_of-self c =
     let same : graph_of c.link.new.self ≡ graph_of c.self.inside.graph = search rules in
     sound_at c.self.inside.half_forked (graph_of c.self.inside.graph) _ c.self.inside.block same c.self.invariant
 
-pub invariant_of-self-2 : goal.invariant_of-self-2
-invariant_of-self-2 c =
+pub invariant_of-self-in_err-map_err-2 : goal.invariant_of-self-in_err-map_err-2
+invariant_of-self-in_err-map_err-2 c =
     let once : graph_of c.link.new.self ≡ linked c.self.inside.block c.args.yes (graph_of c.self.inside.graph) = search rules in
     let same : graph_of c.link-2.new.self ≡ graph_of c.link.new.self = search rules in
     let found : IsOpen (graph_of c.self.inside.graph) c.args.yes = search rules in
@@ -23,8 +23,8 @@ invariant_of-self-2 c =
     sound_at true (linked c.self.inside.block c.args.yes (graph_of c.self.inside.graph)) _ c.args.yes (same ∙ once)
     (half_sound c.self.inside.half_forked (graph_of c.self.inside.graph) c.self.inside.block c.self.invariant c.args.yes found.after other)
 
-pub invariant_of-self-3 : goal.invariant_of-self-3
-invariant_of-self-3 c =
+pub invariant_of-self-2 : goal.invariant_of-self-2
+invariant_of-self-2 c =
     let once : graph_of c.link.new.self ≡ linked c.self.inside.block c.args.yes (graph_of c.self.inside.graph) = search rules in
     let twice : graph_of c.link-2.new.self ≡ linked c.self.inside.block c.args.no (graph_of c.link.new.self) = search rules in
     let found : IsOpen (graph_of c.self.inside.graph) c.args.yes = search rules in

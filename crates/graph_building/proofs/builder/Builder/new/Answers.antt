@@ -1,8 +1,7 @@
 -- Nothing stands in the graph but the function of the form's own code.
-use Rattle.std.proofs.Common.{◌≡◌, false, refl, ap, ◌∙◌, rules}
-use Rattle.icr_graph.specs.Plain.{Slots, graph_of}
+use Rattle.std.proofs.Common.{◌≡◌, false, refl, rules}
+use Rattle.icr_graph.specs.Plain.{graph_of}
 use Rattle.icr_graph.specs.Building.{with_code}
-use Rattle.graph_building.specs.Orderly.{Sound}
 use Rattle.graph_building.proofs.Parts.{is_begun}
 use Rattle.graph_building.proofs.Orderly.{sound_at, sound_kept, others_kept, nothing_sound}
 use Rattle.graph_building.proofs.builder.Builder.new.Goals as goal
