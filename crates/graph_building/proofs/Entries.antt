@@ -76,3 +76,30 @@ module _ {A : Type 0} (p : A → List ℕ) where
       by_case : (n ≡ at) ⊎ (n ≢ at) → numbers_of p (with_entry m at (Some x) n) ≡ numbers_of p (m n)
       by_case (inl same) = rw (eq-eqb n at same) (none ∙ sym (ap (numbers_of p) (ap m same ∙ vacant)))
       by_case (inr other) = rw (ne_eqb n at other) refl
+
+module _ {A : Type 0} (P : Option A → Type 0) where
+  -- what is so of an entry, be something there or not, stays so where the change keeps it
+  mapped_holds : (f : A → A) (o : Option A) → ((x : A) → P (Some x) → P (Some (f x))) → P o → P (option_map f o)
+  mapped_holds f None step holds = holds
+  mapped_holds f (Some x) step holds = step x holds
+
+  pub changed_holds : (f : A → A) (at : ℕ) (m : ℕ → Option A) (n : ℕ) → ((x : A) → P (Some x) → P (Some (f x))) → P (m n) → P (changed f at m n)
+  changed_holds f at m n step holds = by_case (n == at)
+    where
+      by_case : (b : Bool) → P (if b then option_map f (m n) else m n)
+      by_case true = mapped_holds f (m n) step holds
+      by_case false = holds
+
+  pub touched_holds : (f : A → A) (ks : List ℕ) (m : ℕ → Option A) (n : ℕ) → ((x : A) → P (Some x) → P (Some (f x))) → P (m n) → P (touched ks f m n)
+  touched_holds f ks m n step holds = by_case (has_number n ks)
+    where
+      by_case : (b : Bool) → P (if b then option_map f (m n) else m n)
+      by_case true = mapped_holds f (m n) step holds
+      by_case false = holds
+
+  pub entry_holds : (m : ℕ → Option A) (at n : ℕ) (entry : Option A) → P entry → P (m n) → P (with_entry m at entry n)
+  entry_holds m at n entry new holds = by_case (n == at)
+    where
+      by_case : (b : Bool) → P (if b then entry else m n)
+      by_case true = new
+      by_case false = holds

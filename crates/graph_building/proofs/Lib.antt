@@ -4,3 +4,4 @@ pub mod Entries
 pub mod Edits
 pub mod Parts
 pub mod NewNodes
+pub mod Orderly

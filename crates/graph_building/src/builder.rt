@@ -1,7 +1,9 @@
 // The builder: a graph, and the block to which nodes are added.
 ghost use Rattle.std.specs.Prelude.{◌≡◌, ℕ, [], None, Some, IfOk};
+ghost use Rattle.icr_graph.specs.Plain.{graph_of};
 ghost use Rattle.graph_meaning.specs.Reading.{variable_of_entry};
 ghost use Rattle.graph_building.specs.Built as built;
+ghost use Rattle.graph_building.specs.Orderly.{AllChecked, FewSuccessors};
 
 use crate::functions::begin_function;
 use icr_graph::{Defined, EditFault, Extent, Function, Graph, Links, Node, NodeKind};
@@ -11,7 +13,8 @@ use std::alloc::{AllocError, Global};
 use std::marker::Model;
 
 /// A graph that is being built. Nodes are added at the end of one block, which no block follows
-/// yet. Continuations have rising numbers.
+/// yet; every other block has the successors that its last node asks for, or none. Continuations
+/// have rising numbers, and each of their assertions is checked.
 ///
 /// A call that fails says want of memory, and the builder is then of no further use.
 #[derive(Drop)]
@@ -20,12 +23,14 @@ pub struct Builder {
     pub(crate) graph: Graph,
     pub(crate) block: BlockId,
     pub(crate) fresh: u32,
+    // Whether a fork failed at its second edge. The graph is then never finished.
+    pub(crate) half_forked: bool,
 }
 
 impl Model for Builder {
-    ghost use Rattle.std.specs.Prelude.{◌≡◌, []};
-    ghost use Rattle.icr_graph.specs.Plain.{graph_of, blocks_after};
+    ghost use Rattle.icr_graph.specs.Plain.{graph_of};
     ghost use Rattle.graph_building.specs.Built.{Built};
+    ghost use Rattle.graph_building.specs.Orderly.{Sound};
     ghost use Rattle.std.specs.Coded.{codes};
     ghost use Rattle.lisp_base.specs.contracts.types.TypeSpec as type_spec;
 
@@ -35,7 +40,7 @@ impl Model for Builder {
 
     ghost coded = { Prim.hlevel (codes, type_spec.the_row.coded) };
 
-    ghost invariant = { λ b. blocks_after (graph_of b.graph) b.block ≡ [] };
+    ghost invariant = { λ b. Sound b.half_forked (graph_of b.graph) b.block };
 }
 
 /// A function that was added, and the block at which its code begins.
@@ -106,6 +111,7 @@ impl Builder {
             graph,
             block: code.block,
             fresh: 0,
+            half_forked: false,
         })
     }
 
@@ -119,10 +125,20 @@ impl Builder {
         }
     }
 
-    /// The graph.
-    pub fn finish(self) -> Graph
-        ensures { result ≡ self.slots }
+    /// The graph. Every assertion in it is checked, and two blocks follow each block that ends with
+    /// an If, at most one each other block.
+    ///
+    /// # Errors
+    /// Want of memory; told as that: nodes are added to a block that ends with an If, or a fork
+    /// failed before.
+    pub fn finish(self) -> Result<Graph, AllocError>
+        ensures graph { IfOk result (λ g. g ≡ self.slots) }
+        ensures checked { IfOk result (λ g. AllChecked (graph_of g)) }
+        ensures few { IfOk result (λ g. FewSuccessors (graph_of g)) }
     {
-        self.graph
+        if self.half_forked || !self.ends_plainly() {
+            return Err(AllocError);
+        }
+        Ok(self.graph)
     }
 }

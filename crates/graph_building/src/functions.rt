@@ -1,7 +1,8 @@
 // Functions added.
-ghost use Rattle.std.specs.Prelude.{◌≡◌, ℕ, [], IfOk, OnOk};
-ghost use Rattle.icr_graph.specs.Plain.{graph_of, blocks_after};
+ghost use Rattle.std.specs.Prelude.{◌≡◌, ℕ, Bool, [], IfOk, OnOk};
+ghost use Rattle.icr_graph.specs.Plain.{graph_of};
 ghost use Rattle.graph_building.specs.Built as built;
+ghost use Rattle.graph_building.specs.Orderly.{Sound};
 ghost use Rattle.graph_building.specs.Steps.{AddsFunction};
 
 use crate::builder::{Builder, NewFunction, want_of_memory};
@@ -9,7 +10,7 @@ use icr_graph::{Function, Graph};
 use ir_ids::FunId;
 use std::alloc::{AllocError, Global};
 
-// Adds a function, whose code begins at a new block. No edge is added, also where it fails.
+// Adds a function, whose code begins at a new block. What is sound stays so, also where it fails.
 pub(crate) fn begin_function(
     graph: &mut Graph,
     alloc: Global,
@@ -17,7 +18,7 @@ pub(crate) fn begin_function(
 ) -> Result<NewFunction, AllocError>
     requires { function.entries ≡ [] }
     ensures added { IfOk result (λ f. AddsFunction function (graph_of graph.old) (graph_of graph.new) f.function f.block) }
-    ensures edges { (b : ℕ) → blocks_after (graph_of graph.new) b ≡ blocks_after (graph_of graph.old) b }
+    ensures sound { (half_forked : Bool) (block : ℕ) → Sound half_forked (graph_of graph.old) block → Sound half_forked (graph_of graph.new) block }
 {
     let function = graph.add_function(function).map_err(want_of_memory)?;
     let block = graph.add_block(alloc)?;

@@ -36,7 +36,7 @@ fn a_node_delivers_or_not(rt: HostRuntime) -> Result<(), Fail> {
     let value = builder.cont()?;
     let first = constant(&mut builder, Some(value))?;
     let last = constant(&mut builder, None)?;
-    let graph = builder.finish();
+    let graph = builder.finish()?;
     assert!(rt; delivers_to(&graph, first) == Some(value.number()));
     assert!(rt; delivers_to(&graph, last).is_none());
     Ok(())
@@ -48,11 +48,28 @@ fn blocks_end_once(rt: HostRuntime) -> Result<(), Fail> {
     let mut builder = begun(alloc)?;
     let yes = builder.block()?;
     let no = builder.block()?;
+    assert!(rt; builder.fork(yes, no).is_err());
+    let test = builder.cont()?;
+    let _test = constant(&mut builder, Some(test))?;
+    let _choice = builder.node(NodeKind::If { test }, None, PLACE, CHARGES)?;
+    assert!(rt; builder.go_on(no, no).is_err());
     builder.fork(yes, no)?;
     let _node = constant(&mut builder, None)?;
     builder.go_on(no, no)?;
     assert!(rt; builder.begin(yes).is_err());
     builder.begin(no)?;
+    let _graph = builder.finish()?;
+    Ok(())
+}
+
+#[test]
+fn a_graph_that_ends_with_a_choice_is_not_finished(rt: HostRuntime) -> Result<(), Fail> {
+    let alloc = rt.alloc();
+    let mut builder = begun(alloc)?;
+    let test = builder.cont()?;
+    let _test = constant(&mut builder, Some(test))?;
+    let _choice = builder.node(NodeKind::If { test }, None, PLACE, CHARGES)?;
+    assert!(rt; builder.finish().is_err());
     Ok(())
 }
 
@@ -67,7 +84,7 @@ fn an_exit_names_its_entry(rt: HostRuntime) -> Result<(), Fail> {
     let kind = NodeKind::Entry { extent, exits };
     let entry = builder.node(kind, None, PLACE, CHARGES)?;
     builder.exit(Leaving::Release, Some(entry), None, PLACE, CHARGES)?;
-    let graph = builder.finish();
+    let graph = builder.finish()?;
     let count = match graph.node(entry) {
         Some(node) => match &node.kind {
             NodeKind::Entry { exits, .. } => exits.len(),

@@ -1,10 +1,15 @@
--- A new continuation changes no block.
-use Rattle.std.proofs.Common.{ap, ◌∙◌}
-use Rattle.icr_graph.specs.Plain.{FlowGraph, blocks_after}
+-- A new continuation has no assertions.
+use Rattle.icr_graph.specs.Plain.{graph_of}
+use Rattle.icr_graph.specs.Building.{with_cont}
+use Rattle.graph_building.proofs.Orderly.{sound_at, sound_kept, cont_kept}
 use Rattle.graph_building.proofs.builder.Builder.add_cont.Goals as goal
 
 pub invariant_of-self-in_err-self-inside : goal.invariant_of-self-in_err-self-inside
-invariant_of-self-in_err-self-inside c = ap (λ (g : FlowGraph). blocks_after g c.self.inside.block) c.in_ok-cont.ensures.ok ∙ c.self.invariant
+invariant_of-self-in_err-self-inside c =
+    sound_at c.self.inside.half_forked (with_cont c.in_ok-cont.cont (graph_of c.self.inside.graph)) _ c.self.inside.block c.in_ok-cont.ensures.ok
+    (sound_kept c.self.inside.half_forked (graph_of c.self.inside.graph) _ c.self.inside.block (cont_kept c.self.inside.block (graph_of c.self.inside.graph) c.in_ok-cont.cont) c.self.invariant)
 
 pub invariant_of-self-2 : goal.invariant_of-self-2
-invariant_of-self-2 c = ap (λ (g : FlowGraph). blocks_after g c.self.inside.block) c.in_ok-cont.ensures.ok ∙ c.self.invariant
+invariant_of-self-2 c =
+    sound_at c.self.inside.half_forked (with_cont c.in_ok-cont.cont (graph_of c.self.inside.graph)) _ c.self.inside.block c.in_ok-cont.ensures.ok
+    (sound_kept c.self.inside.half_forked (graph_of c.self.inside.graph) _ c.self.inside.block (cont_kept c.self.inside.block (graph_of c.self.inside.graph) c.in_ok-cont.cont) c.self.invariant)

@@ -1,20 +1,22 @@
--- An assertion changes no block.
-use Rattle.std.proofs.Common.{◌≡◌, ap, ◌∙◌, true, rules}
-use Rattle.icr_graph.specs.Plain.{FlowGraph, graph_of, blocks_after}
+-- The assertion that is added is checked.
+use Rattle.std.proofs.Common.{◌≡◌, refl, ap, ◌∙◌, true, rules}
+use Rattle.icr_graph.specs.Plain.{graph_of}
 use Rattle.icr_graph.specs.Building.{with_assertion}
 use Rattle.graph_building.specs.Built.{Built, graph}
 use Rattle.graph_building.proofs.Parts.{new_asserted}
+use Rattle.graph_building.proofs.Orderly.{sound_at, sound_kept, assertion_kept}
 use Rattle.graph_building.proofs.builder.Builder.asserted_cont.Goals as goal
 
 pub invariant_of-self : goal.invariant_of-self
 invariant_of-self c =
     let same : graph_of c.assert_on.new.self ≡ graph_of c.self.inside.graph = search rules in
-    ap (λ (g : FlowGraph). blocks_after g c.self.inside.block) same ∙ c.self.invariant
+    sound_at c.self.inside.half_forked (graph_of c.self.inside.graph) _ c.self.inside.block same c.self.invariant
 
 pub invariant_of-self-2 : goal.invariant_of-self-2
 invariant_of-self-2 c =
     let is : graph_of c.assert_on.new.self ≡ with_assertion c.in_ok-cont.cont (record { spec = c.args.spec; place = c.args.place; checked = true }) (graph_of c.self.inside.graph) = search rules in
-    ap (λ (g : FlowGraph). blocks_after g c.self.inside.block) is ∙ c.self.invariant
+    sound_at c.self.inside.half_forked (with_assertion c.in_ok-cont.cont (record { spec = c.args.spec; place = c.args.place; checked = true }) (graph_of c.self.inside.graph)) _ c.self.inside.block is
+    (sound_kept c.self.inside.half_forked (graph_of c.self.inside.graph) _ c.self.inside.block (assertion_kept c.self.inside.block (graph_of c.self.inside.graph) c.in_ok-cont.cont (record { spec = c.args.spec; place = c.args.place; checked = true }) refl) c.self.invariant)
 
 pub returns : goal.returns
 returns c =

@@ -3,6 +3,9 @@ use Rattle.std.proofs.Common.{refl}
 use Rattle.graph_building.proofs.Parts.{function_told}
 use Rattle.graph_building.proofs.builder.Builder.function.Goals as goal
 
+pub invariant_of-self : goal.invariant_of-self
+invariant_of-self c = c.begin_function.ensures.sound c.self.inside.half_forked c.self.inside.block c.self.invariant
+
 pub returns : goal.returns
 returns c =
     rw (← c.self.view_is) (function_told _ _ refl refl c.begin_function.result c.args.function c.requires c.begin_function.ensures.added)

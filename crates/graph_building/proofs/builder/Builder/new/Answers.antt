@@ -1,16 +1,18 @@
 -- Nothing stands in the graph but the function of the form's own code.
-use Rattle.std.proofs.Common.{◌≡◌, refl, ap, ◌∙◌, rules}
-use Rattle.icr_graph.specs.Plain.{FlowGraph, Slots, graph_of, blocks_after}
+use Rattle.std.proofs.Common.{◌≡◌, false, refl, rules}
+use Rattle.icr_graph.specs.Plain.{graph_of}
 use Rattle.icr_graph.specs.Building.{with_code}
 use Rattle.graph_building.proofs.Parts.{is_begun}
+use Rattle.graph_building.proofs.Orderly.{sound_at, sound_kept, others_kept, nothing_sound}
 use Rattle.graph_building.proofs.builder.Builder.new.Goals as goal
 
 pub invariant_of-result : goal.invariant_of-result
 invariant_of-result c =
     let is : graph_of c.set_code.new.self ≡ with_code c.in_ok-code.code.function (graph_of c.begin_function.new.graph) = search rules in
-    ap (λ (g : FlowGraph). blocks_after g c.in_ok-code.code.block) is
-    ∙ c.in_ok-code.ensures.edges c.in_ok-code.code.block
-    ∙ ap (λ (s : Slots). blocks_after (graph_of s) c.in_ok-code.code.block) c.new-graph.ensures
+    let block = c.in_ok-code.code.block in
+    sound_at false (with_code c.in_ok-code.code.function (graph_of c.begin_function.new.graph)) _ block is
+    (sound_kept false (graph_of c.begin_function.new.graph) _ block (others_kept block (graph_of c.begin_function.new.graph) _ refl refl refl)
+    ((rw c.new-graph.ensures at c.in_ok-code.ensures.sound) false block (nothing_sound c.args.size c.args.copies c.args.defines block)))
 
 pub returns : goal.returns
 returns c =
