@@ -1,8 +1,8 @@
 -- The graphs of all forms of a program. (This project's own.)
-use Rattle.std.proofs.Common.{◌≡◌, ◌<◌, zero, ℕ, suc, ◌+◌, List, [], ◌∷◌, ◌++◌, length, map, take, refl, sym, ap, subst, ◌∙◌, inl, inr, arith}
+use Rattle.std.proofs.Common.{◌≡◌, ◌<◌, zero, ℕ, suc, ◌+◌, List, [], ◌∷◌, ◌++◌, length, map, take, sym, ap, subst, ◌∙◌, append-nil, append_assoc}
 use Rattle.std.specs.Prelude.{get_or}
 use Rattle.std.specs.List.{Contains}
-use Rattle.std.proofs.lemmas.List.{append-nil, map-append, take_more}
+use Rattle.std.proofs.lemmas.List.{map-append, take_more}
 use Rattle.std.proofs.lemmas.List.Elements.{Contains-append_left, Contains-append_right, Contains-get_or}
 use Rattle.layers.specs.Among.{Each}
 use Rattle.layers.specs.Layer.{Layer}
@@ -28,10 +28,6 @@ each_more R (x ∷ cs) [] c d each one = absurd each
 each_more R (x ∷ cs) (y ∷ ds) c d each one = (each.0, each_more R cs ds c d each.1 one)
 
 -- ---- graphs of forms one after another
-
-append_assoc : {A : Type 0} (xs ys zs : List A) → (xs ++ ys) ++ zs ≡ xs ++ ys ++ zs
-append_assoc [] ys zs = refl
-append_assoc (x ∷ xs) ys zs = ap (λ (ws : List _). x ∷ ws) (append_assoc xs ys zs)
 
 pub none_added : (p : Parts) (gs : List Slots) → AddsGraphs p [] gs gs
 none_added p gs done are = subst (λ (fs : List TopForm). AreGraphsOf p fs gs) (sym (append-nil done)) are

@@ -22,7 +22,7 @@ returns-clause-graph c =
     let codes : CodesAll names (functions_in (core_of form.core)) (length (functions_in (core_of form.core))) before after =
     subst (λ (ts : List FunctionText). CodesAll names ts (length ts) before after) coded
     (subst (λ (n : ℕ). CodesAll names (map text_of all) n before after) (sym (length-map all text_of)) c.in_ok-codes.ensures) in
-    subst (λ (s : Slots). IsGraphOf (symbols_of program) (top_of form) (graph_of s)) (sym c.finish.ensures)
+    subst (λ (s : Slots). IsGraphOf (symbols_of program) (top_of form) (graph_of s)) (sym c.finish.ensures.graph)
     (graph_of_form c.numbered_functions.ensures.numbered c.numbered_functions.ensures.local (form_lawful program form c.prelude.ensures.lawful c.requires).functions
     c.in_ok-converter.ensures (c.in_ok-names.ensures listed) c.in_ok-own_code.ensures codes)
 
