@@ -5,3 +5,4 @@ pub mod Edits
 pub mod Parts
 pub mod NewNodes
 pub mod Orderly
+pub mod Ownership

@@ -224,20 +224,11 @@ forks_to a b yes_block no_block block_is fresh none found allowed allowed_too is
         ∙ linked_after (linked a.block yes_block (graph a)) a.block no_block allowed_too
         ∙ ap (λ (bs : List ℕ). bs ++ no_block ∷ []) (linked_after (graph a) a.block yes_block allowed ∙ ap (λ (bs : List ℕ). bs ++ yes_block ∷ []) none)
 
--- ---- edits that may be refused
-
--- the blocks after a block stay, whether the edit is made or refused
-pub after_stays : {T E : Type 0} (r : Result T E) (g h : FlowGraph) (edited : T → FlowGraph) (b : ℕ) → ((x : T) → blocks_after (edited x) b ≡ blocks_after g b) → IfOk r (λ x. h ≡ edited x) → OnErr r (h ≡ g) → blocks_after h b ≡ blocks_after g b
-after_stays (Ok x) g h edited b kept is same = ap (λ (j : FlowGraph). blocks_after j b) is ∙ kept x
-after_stays (Err e) g h edited b kept is same = ap (λ (j : FlowGraph). blocks_after j b) same
+-- ---- as the calls tell it
 
 -- a new block is not after another, and no block is after it
 pub block_after : (g : FlowGraph) (n b : ℕ) → g.block n ≡ None → blocks_after (with_block n g) b ≡ blocks_after g b
 block_after g n b vacant = entry_reads (λ (x : Block). x.after) g.block n empty_block b vacant refl
-
-pub after_stays_block : {E : Type 0} (r : Result ℕ E) (g h : FlowGraph) (b : ℕ) → IfOk r (λ n. g.block n ≡ None) → IfOk r (λ n. h ≡ with_block n g) → OnErr r (h ≡ g) → blocks_after h b ≡ blocks_after g b
-after_stays_block (Ok n) g h b vacant is same = ap (λ (j : FlowGraph). blocks_after j b) is ∙ block_after g n b vacant
-after_stays_block (Err e) g h b vacant is same = ap (λ (j : FlowGraph). blocks_after j b) same
 
 module _ {E : Type 0} (a b : Built) (block_is : b.block ≡ a.block) (fresh_is : b.fresh ≡ a.fresh) where
   pub block_told : (r : Result ℕ E) → IfOk r (λ n. (graph a).block n ≡ None) → IfOk r (λ n. graph b ≡ with_block n (graph a)) → IfOk r (λ n. Beside a b)

@@ -3,9 +3,10 @@ ghost use Rattle.std.specs.Prelude.{◌≡◌, ℕ, [], None, Some, IfOk};
 ghost use Rattle.icr_graph.specs.Plain.{graph_of};
 ghost use Rattle.graph_meaning.specs.Reading.{variable_of_entry};
 ghost use Rattle.graph_building.specs.Built as built;
-ghost use Rattle.graph_building.specs.Orderly.{AllChecked, FewSuccessors};
+ghost use Rattle.graph_building.specs.Orderly.{AllChecked, FewSuccessors, OneFunction};
 
 use crate::functions::begin_function;
+use crate::owners::Owners;
 use icr_graph::{Defined, EditFault, Extent, Function, Graph, Links, Node, NodeKind};
 use ir_ids::{BlockId, FunId, NodeId, VarId};
 use lisp_base::Place;
@@ -13,8 +14,9 @@ use std::alloc::{AllocError, Global};
 use std::marker::Model;
 
 /// A graph that is being built. Nodes are added at the end of one block, which no block follows
-/// yet; every other block has the successors that its last node asks for, or none. Continuations
-/// have rising numbers, and each of their assertions is checked.
+/// yet; every other block has the successors that its last node asks for, or none. A new block
+/// belongs to the function of the block to which nodes are added. Continuations have rising
+/// numbers, and each of their assertions is checked.
 ///
 /// A call that fails says want of memory, and the builder is then of no further use.
 #[derive(Drop)]
@@ -23,6 +25,7 @@ pub struct Builder {
     pub(crate) graph: Graph,
     pub(crate) block: BlockId,
     pub(crate) fresh: u32,
+    pub(crate) owners: Owners,
     // Whether a fork failed at its second edge. The graph is then never finished.
     pub(crate) half_forked: bool,
 }
@@ -30,7 +33,7 @@ pub struct Builder {
 impl Model for Builder {
     ghost use Rattle.icr_graph.specs.Plain.{graph_of};
     ghost use Rattle.graph_building.specs.Built.{Built};
-    ghost use Rattle.graph_building.specs.Orderly.{Sound};
+    ghost use Rattle.graph_building.specs.Orderly.{IsOrderly};
     ghost use Rattle.std.specs.Coded.{codes};
     ghost use Rattle.lisp_base.specs.contracts.types.TypeSpec as type_spec;
 
@@ -40,7 +43,7 @@ impl Model for Builder {
 
     ghost coded = { Prim.hlevel (codes, type_spec.the_row.coded) };
 
-    ghost invariant = { λ b. Sound b.half_forked (graph_of b.graph) b.block };
+    ghost invariant = { λ b. IsOrderly b.half_forked b.owners (graph_of b.graph) b.block };
 }
 
 /// A function that was added, and the block at which its code begins.
@@ -104,13 +107,15 @@ impl Builder {
         ensures { IfOk result (built.IsBegun size copies defines place) }
     {
         let mut graph = Graph::new(alloc, size, copies, defines);
-        let code = begin_function(&mut graph, alloc, own_code(alloc, place))?;
+        let mut owners = Owners::new(alloc);
+        let code = begin_function(&mut graph, &mut owners, alloc, own_code(alloc, place))?;
         graph.set_code(code.function).map_err(want_of_memory)?;
         Ok(Builder {
             alloc,
             graph,
             block: code.block,
             fresh: 0,
+            owners,
             half_forked: false,
         })
     }
@@ -126,7 +131,7 @@ impl Builder {
     }
 
     /// The graph. Every assertion in it is checked, and two blocks follow each block that ends with
-    /// an If, at most one each other block.
+    /// an If, at most one each other block. Each block belongs to one function.
     ///
     /// # Errors
     /// Want of memory; told as that: nodes are added to a block that ends with an If, or a fork
@@ -135,6 +140,7 @@ impl Builder {
         ensures graph { IfOk result (λ g. g ≡ self.slots) }
         ensures checked { IfOk result (λ g. AllChecked (graph_of g)) }
         ensures few { IfOk result (λ g. FewSuccessors (graph_of g)) }
+        ensures functions { IfOk result (λ g. OneFunction (graph_of g)) }
     {
         if self.half_forked || !self.ends_plainly() {
             return Err(AllocError);

@@ -6,6 +6,7 @@ ghost use Rattle.graph_building.specs.Orderly.{EndsWith};
 ghost use Rattle.graph_building.specs.Steps.{IsOpen};
 
 use crate::builder::{Builder, want_of_memory};
+use crate::owners::have_one_owner;
 use icr_graph::{Graph, NodeKind};
 use ir_ids::{BlockId, Id};
 use std::alloc::AllocError;
@@ -71,7 +72,8 @@ impl Builder {
         Ok(())
     }
 
-    /// Ends the block, which goes on at `next`; nodes are then added to `then`, which has none.
+    /// Ends the block, which goes on at `next`, a block of the same function; nodes are then added
+    /// to `then`, which has none. The block doesn't end with an If.
     ///
     /// # Errors
     /// Want of memory.
@@ -81,13 +83,16 @@ impl Builder {
         if !self.ends_plainly() || !self.may_begin(then) {
             return Err(AllocError);
         }
+        if !have_one_owner(self.owners.as_slice(), self.block, next) {
+            return Err(AllocError);
+        }
         self.graph.link(self.block, next).map_err(want_of_memory)?;
         self.block = then;
         Ok(())
     }
 
-    /// Ends the block behind an If, which goes on at `yes` or at `no`; nodes are then added to
-    /// `yes`, which has none.
+    /// Ends the block behind an If, which goes on at `yes` or at `no`, blocks of the same function;
+    /// nodes are then added to `yes`, which has none.
     ///
     /// # Errors
     /// Want of memory.
@@ -95,6 +100,10 @@ impl Builder {
         ensures { OnOk result (built.ForksTo yes no self.old self.new) }
     {
         if self.half_forked || !self.ends_with_if() || !self.may_begin(yes) {
+            return Err(AllocError);
+        }
+        let owners = self.owners.as_slice();
+        if !have_one_owner(owners, self.block, yes) || !have_one_owner(owners, self.block, no) {
             return Err(AllocError);
         }
         let ended = self.block;

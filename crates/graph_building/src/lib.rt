@@ -5,6 +5,7 @@ mod builder;
 mod flow;
 mod functions;
 mod nodes;
+mod owners;
 #[cfg(test)]
 mod tests;
 

@@ -6,6 +6,7 @@ ghost use Rattle.graph_building.specs.Built as built;
 ghost use Rattle.graph_building.specs.Steps.{Becomes, AddsCont, AddsNode, delivering, pairing};
 
 use crate::builder::{Builder, want_of_memory};
+use crate::owners::{arrive_at_home, note_owner, owner_of};
 use icr_graph::{Assertion, Charges, Leaving, NodeKind, Variable};
 use ir_ids::{BlockId, ContId, Id, NodeId, VarId};
 use lisp_base::{Place, TypeSpec};
@@ -28,14 +29,19 @@ fn above(fresh: u32, cont: ContId) -> Result<u32, AllocError>
 }
 
 impl Builder {
-    /// Adds a block without nodes.
+    /// Adds a block without nodes, of the function to whose code nodes are added.
     ///
     /// # Errors
     /// Want of memory.
     pub fn block(&mut self) -> Result<BlockId, AllocError>
         ensures { OnOk result (built.Beside self.old self.new) }
     {
-        self.graph.add_block(self.alloc)
+        let Some(owner) = owner_of(self.owners.as_slice(), self.block) else {
+            return Err(AllocError);
+        };
+        let block = self.graph.add_block(self.alloc)?;
+        note_owner(&mut self.owners, block, owner)?;
+        Ok(block)
     }
 
     /// Adds a variable.
@@ -91,6 +97,9 @@ impl Builder {
         requires { partners_of kind ≡ [] }
         ensures { IfOk result (AddsNode (record { kind = kind; cont = None; block = self.old.block; place = place; charges = charges }) self.old self.new) }
     {
+        if !arrive_at_home(self.owners.as_slice(), self.block, &kind) {
+            return Err(AllocError);
+        }
         self.graph
             .add_node(self.alloc, self.block, kind, place, charges)
             .map_err(want_of_memory)
@@ -117,7 +126,7 @@ impl Builder {
     }
 
     /// Adds a node, which delivers to a continuation or nowhere. The kind names neither an entry
-    /// nor exits.
+    /// nor exits, and no block of another function.
     ///
     /// # Errors
     /// Want of memory.

@@ -11,7 +11,12 @@ pub invariant_of-self : goal.invariant_of-self
 invariant_of-self c =
     let found : IsOpen (graph_of c.self.inside.graph) c.args.block = search rules in
     let ends : EndsWith false (graph_of c.self.inside.graph) c.self.inside.block = search rules in
-    begins_sound c.self.inside.half_forked (graph_of c.self.inside.graph) c.self.inside.block c.self.invariant c.args.block ends found.after
+    record {
+      sound =
+          begins_sound c.self.inside.half_forked (graph_of c.self.inside.graph) c.self.inside.block c.self.invariant.sound c.args.block ends found.after;
+      owned =
+          c.self.invariant.owned;
+    }
 
 pub returns : goal.returns
 returns c =
