@@ -231,10 +231,6 @@ pub block_after : (g : FlowGraph) (n b : ℕ) → g.block n ≡ None → blocks_
 block_after g n b vacant = entry_reads (λ (x : Block). x.after) g.block n empty_block b vacant refl
 
 module _ {E : Type 0} (a b : Built) (block_is : b.block ≡ a.block) (fresh_is : b.fresh ≡ a.fresh) where
-  pub block_told : (r : Result ℕ E) → IfOk r (λ n. (graph a).block n ≡ None) → IfOk r (λ n. graph b ≡ with_block n (graph a)) → IfOk r (λ n. Beside a b)
-  block_told (Ok n) vacant is = block_beside a b block_is n fresh_is vacant is
-  block_told (Err e) vacant is = tt
-
   pub variable_told : (r : Result ℕ E) (variable : Variable) → IfOk r (λ v. (graph a).variable v ≡ None) → IfOk r (λ v. graph b ≡ with_variable v variable (graph a)) → IfOk r (λ v. NewVariable variable a b v)
   variable_told (Ok v) variable vacant is = new_variable a b block_is v variable fresh_is vacant is
   variable_told (Err e) variable vacant is = tt
@@ -251,14 +247,6 @@ pub function_told : {E : Type 0} (a b : Built) → b.block ≡ a.block → b.fre
     IfOk r (λ f. AddsFunction function (graph a) (graph b) f.function f.block) → IfOk r (λ f. NewFunction function a b f.function f.block)
 function_told a b block_is fresh_is (Ok f) function none adds = new_function a b block_is f.function f.block function none fresh_is adds
 function_told a b block_is fresh_is (Err e) function none adds = tt
-
-pub forks_told : {E : Type 0} (a b : Built) (r : Result (Unit {0}) E) (m : FlowGraph) (yes_block no_block : ℕ) → b.block ≡ yes_block → b.fresh ≡ a.fresh → blocks_after (graph a) a.block ≡ [] → IsOpen (graph a) yes_block →
-    link_fault (graph a) a.block yes_block ≡ None → m ≡ linked a.block yes_block (graph a) → OnOk r (link_fault m a.block no_block ≡ None) → OnOk r (graph b ≡ linked a.block no_block m) → OnOk r (ForksTo yes_block no_block a b)
-forks_told a b (Ok u) m yes_block no_block block_is fresh_is none found allowed once allowed_too is =
-    forks_to a b yes_block no_block block_is fresh_is none found allowed
-    (ap (λ (g : FlowGraph). link_fault g a.block no_block) (sym once) ∙ allowed_too)
-    (is ∙ ap (linked a.block no_block) once)
-forks_told a b (Err e) m yes_block no_block block_is fresh_is none found allowed once allowed_too is = tt
 
 -- ---- a graph that is begun
 
