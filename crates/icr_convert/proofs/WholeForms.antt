@@ -1,5 +1,5 @@
 -- A whole form: its own code, its functions, its graph. (This project's own.)
-use Rattle.std.proofs.Common.{true, false, ◌≡◌, ◌<◌, zero, ℕ, suc, ◌+◌, List, [], ◌∷◌, ◌++◌, Option, Some, None, length, map, slice_get, refl, sym, ap, subst, ◌∙◌, inl, inr, arith}
+use Rattle.std.proofs.Common.{true, false, ◌≡◌, ◌<◌, zero, ℕ, suc, ◌+◌, List, [], ◌∷◌, ◌++◌, Option, Some, None, Result, Ok, Err, IfOk, length, map, slice_get, refl, sym, ap, subst, ◌∙◌, inl, inr, arith}
 use Rattle.std.specs.Prelude.{slice_index_or}
 use Rattle.std.specs.List.{Contains}
 use Rattle.std.proofs.lemmas.Bool.{cases_eq}
@@ -17,7 +17,7 @@ use Rattle.core_form.specs.Eval.{Program}
 use Rattle.core_form.specs.Lawful.{CountFrom, function_number, TopIsLawful, TopsAreLawful, IsLawful, Parts, meant}
 use Rattle.icr_graph.specs.declared.nodes.NodeKind.TheVariants as kind
 use Rattle.icr_graph.specs.declared.parts.Defined.{Defined}
-use Rattle.icr_graph.specs.Plain.{FlowGraph}
+use Rattle.icr_graph.specs.Plain.{Slots, FlowGraph, graph_of}
 use Rattle.graph_meaning.specs.Reading.{defined_by, named}
 use Rattle.form_graphs.specs.Spots.{Spot, none}
 use Rattle.form_graphs.specs.Standing.{StandsAt}
@@ -26,13 +26,14 @@ use Rattle.form_names.specs.Names.{Names as FormNames', NamesOf}
 use Rattle.form_names.specs.Laws.{NumberedFunctions, LocalFunctionsStand}
 use Rattle.graph_building.specs.Later.{Later, Lasting}
 use Rattle.graph_building.specs.Built.{Built, graph, spot, FreeCont, NewNode, own_code}
+use Rattle.graph_building.specs.Orderly.{AllChecked, FewSuccessors, OneFunction}
 use Rattle.icr_convert.specs.declared.names.Names.{Names}
 use Rattle.icr_convert.specs.declared.names.Made.{Made}
 use Rattle.icr_convert.specs.Naming.{CodeNamed}
 use Rattle.icr_convert.specs.Scene.{rank, Scene, KnowsNames, MadeStands, Ready}
 use Rattle.icr_convert.specs.Converting.{Converts, cost_alone}
 use Rattle.icr_convert.specs.Coding.{Codes}
-use Rattle.icr_convert.specs.Whole.{OwnCodeStands, OwnCodes, CodesAll, IsFormOf, GraphKeeps, symbols_of, Begun, NamesMade}
+use Rattle.icr_convert.specs.Whole.{OwnCodeStands, OwnCodes, CodesAll, IsFormOf, GraphKeeps, IsWellMade, symbols_of, Begun, NamesMade}
 use Rattle.layers.specs.Lemmas.{keeps_across}
 use Rattle.core_form.specs.AsLayer.{forms_together}
 use Rattle.graph_meaning.specs.AsLayer.{graphs_together}
@@ -203,3 +204,7 @@ form_lawful p f lawful is =
 pub keeps : (p : Parts) (f : TopForm) (g : FlowGraph) → GraphsKeepForms → IsGraphOf (symbols_of p) (top_of f) g → GraphKeeps p f g
 keeps p f g law is heap =
     keeps_across (forms_together heap (symbols_of p)) (graphs_together heap (symbols_of p)) (IsGraphOf (symbols_of p)) (law heap (symbols_of p)) (top_of f) g is
+
+pub well_made : {E : Type 0} (r : Result Slots E) → IfOk r (λ g. AllChecked (graph_of g)) → IfOk r (λ g. FewSuccessors (graph_of g)) → IfOk r (λ g. OneFunction (graph_of g)) → IfOk r (λ g. IsWellMade (graph_of g))
+well_made (Ok g) checked few functions = record { checked = checked; few = few; functions = functions }
+well_made (Err e) checked few functions = tt

@@ -5,12 +5,14 @@ use Rattle.layers.specs.Among.{Each}
 use Rattle.layers.specs.Keeping.{Keeps}
 use Rattle.core_form.specs.declared.tree.TopForm.{TopForm}
 use Rattle.core_form.specs.Reading.{tops_of}
+use Rattle.core_form.specs.State.{Symbol}
+use Rattle.core_form.specs.Tree.{Top}
 use Rattle.core_form.specs.AsLayer.{program_layer}
 use Rattle.core_form.specs.Lawful.{Parts, meant}
-use Rattle.icr_graph.specs.Plain.{Slots, graph_of}
+use Rattle.icr_graph.specs.Plain.{Slots, FlowGraph, graph_of}
 use Rattle.graph_meaning.specs.AsLayer.{graphs_together}
 use Rattle.form_graphs.specs.Functions.{IsGraphOf}
-use Rattle.icr_convert.specs.Whole.{IsFormOf, symbols_of}
+use Rattle.icr_convert.specs.Whole.{IsFormOf, IsWellMade, symbols_of}
 
 -- the forms of a program, those of the prelude first
 abbrev pub all_forms : Parts → List TopForm
@@ -20,9 +22,13 @@ all_forms p = p.prelude ++ p.forms
 abbrev pub AreFormsOf : Parts → List TopForm → Type 0
 AreFormsOf p fs = (f : TopForm) → Contains fs f → IsFormOf p f
 
+-- the graph of a form, well made
+abbrev pub IsMadeGraphOf : List Symbol → Top → FlowGraph → Type 0
+IsMadeGraphOf symbols t g = IsGraphOf symbols t g × IsWellMade g
+
 -- each form's graph, in their order
 abbrev pub AreGraphsOf : Parts → List TopForm → List Slots → Type 0
-AreGraphsOf p fs gs = Each (IsGraphOf (symbols_of p)) (tops_of fs) (map graph_of gs)
+AreGraphsOf p fs gs = Each (IsMadeGraphOf (symbols_of p)) (tops_of fs) (map graph_of gs)
 
 -- behind the graphs of other forms come those of these
 abbrev pub AddsGraphs : Parts → List TopForm → (before after : List Slots) → Type 0

@@ -25,6 +25,7 @@ use Rattle.form_facts.specs.View.{View, Knows}
 use Rattle.form_names.specs.Names.{Names as FormNames', NamesOf}
 use Rattle.graph_building.specs.Later.{Later, Lasting}
 use Rattle.graph_building.specs.Built.{Built, graph, spot, Grown, Beside, IsBegun}
+use Rattle.graph_building.specs.Orderly.{AllChecked, FewSuccessors, OneFunction}
 use Rattle.icr_convert.specs.declared.names.Names.{Names}
 use Rattle.icr_convert.specs.declared.names.Made.{Made}
 use Rattle.icr_convert.specs.Naming.{Named, CodeNamed}
@@ -44,6 +45,12 @@ IsFormOf p f = Contains (p.prelude ++ p.forms) f
 abbrev pub GraphKeeps : Parts → TopForm → FlowGraph → Type 0
 GraphKeeps p f g =
     (heap : List Object) → KeepsAcross (forms_together heap (symbols_of p)) (graphs_together heap (symbols_of p)) (IsGraphOf (symbols_of p)) (top_of f) g
+
+-- Every assertion is checked, each block has the successors that its last node asks for, and belongs to one function.
+pub record IsWellMade (g : FlowGraph) : Type 0 where
+  pub checked : AllChecked g
+  pub few : FewSuccessors g
+  pub functions : OneFunction g
 
 -- ---- its parts
 

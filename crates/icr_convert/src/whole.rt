@@ -5,8 +5,7 @@ ghost use Rattle.core_form.specs.Reading.{core_of, cores_list, top_of};
 ghost use Rattle.icr_graph.specs.Plain.{graph_of};
 ghost use Rattle.form_graphs.specs.Functions.{IsGraphOf};
 ghost use Rattle.form_names.specs.Read.{text_of};
-ghost use Rattle.graph_building.specs.Orderly.{AllChecked, FewSuccessors};
-ghost use Rattle.icr_convert.specs.Whole.{Begun, CodesAll, GraphKeeps, IsFormOf, NamesMade, OwnCodes, defined_with, set_by, set_first, set_in, symbols_of};
+ghost use Rattle.icr_convert.specs.Whole.{Begun, CodesAll, GraphKeeps, IsFormOf, IsWellMade, NamesMade, OwnCodes, defined_with, set_by, set_first, set_in, symbols_of};
 
 use crate::binders::note;
 use crate::converter::Converter;
@@ -110,8 +109,8 @@ fn begin(alloc: Global, form: &TopForm) -> Result<Converter, AllocError>
 }
 
 /// The flow graph of a form of a program. It is the form's graph, and keeps what the form means
-/// among any other forms and their graphs. All its assertions are checked; two blocks follow each
-/// block that ends with an If, at most one each other block.
+/// among any other forms and their graphs. Every assertion in it is checked; two blocks follow each
+/// block that ends with an If, at most one each other block; each block belongs to one function.
 ///
 /// # Errors
 /// Want of memory alone.
@@ -119,8 +118,7 @@ pub fn convert_form(alloc: Global, form: &TopForm, program: &Program) -> Result<
     requires { IsFormOf program.now form.now }
     ensures graph { IfOk result (λ g. IsGraphOf (symbols_of program.now) (top_of form.now) (graph_of g)) }
     ensures keeps { IfOk result (λ g. GraphKeeps program.now form.now (graph_of g)) }
-    ensures checked { IfOk result (λ g. AllChecked (graph_of g)) }
-    ensures few { IfOk result (λ g. FewSuccessors (graph_of g)) }
+    ensures made { IfOk result (λ g. IsWellMade (graph_of g)) }
 {
     graphs_keep_forms();
     numbered_functions();
