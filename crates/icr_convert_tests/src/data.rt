@@ -6,8 +6,7 @@ use std::test::*;
 #[test]
 fn a_variable_is_set(rt: HostRuntime) -> Result<(), Fail> {
     let text = text_of(rt.alloc(), "(let ((x 1)) (setq x 2))")?;
-    let wanted =
-        "b0 f0; Constant -> k1 $2; Bind k1; Constant -> k2 $2; Set k2 -> k0; Return k0\n";
+    let wanted = "b0 f0; Constant -> k1 $2; Bind k1; Constant -> k2 $2; Set k2 -> k0; Return k0\n";
     assert_eq!(rt; text.as_str(), wanted);
     Ok(())
 }
@@ -71,6 +70,9 @@ fn a_value_is_called_with_a_list(rt: HostRuntime) -> Result<(), Fail> {
 #[test]
 fn a_global_function_is_taken(rt: HostRuntime) -> Result<(), Fail> {
     let text = text_of(rt.alloc(), "(function f)")?;
-    assert_eq!(rt; text.as_str(), "b0 f0; GlobalFunction -> k0 $1; Return k0\n");
+    assert_eq!(rt;
+        text.as_str(),
+        "b0 f0; GlobalFunction -> k0 $1; Return k0\n"
+    );
     Ok(())
 }
