@@ -7,3 +7,4 @@ pub mod NumberLaws
 pub mod WordRounds
 pub mod SampleLaws
 pub mod Known
+pub mod LostWords

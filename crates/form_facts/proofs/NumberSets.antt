@@ -22,10 +22,10 @@ same_test a b true false p q = sym (eq-eqb b a (sym (eqb-true a b p))) ∙ q
 same_test a b false true p q = sym p ∙ eq-eqb a b (sym (eqb-true b a q))
 same_test a b false false p q = refl
 
-swapped : (a b : ℕ) → (a == b) ≡ (b == a)
+pub swapped : (a b : ℕ) → (a == b) ≡ (b == a)
 swapped a b = same_test a b (a == b) (b == a) refl refl
 
-filter_or : (b c : Bool) (x : ℕ) (xs ys : List ℕ) → b ≡ c → xs ≡ ys → cond b (x ∷ xs) xs ≡ cond c (x ∷ ys) ys
+pub filter_or : (b c : Bool) (x : ℕ) (xs ys : List ℕ) → b ≡ c → xs ≡ ys → cond b (x ∷ xs) xs ≡ cond c (x ∷ ys) ys
 filter_or b c x xs ys h k = ap (λ (d : Bool). cond d (x ∷ xs) xs) h ∙ ap (λ (zs : List ℕ). cond c (x ∷ zs) zs) k
 
 pub filter_same : (p q : ℕ → Bool) → ((n : ℕ) → p n ≡ q n) → (xs : List ℕ) → filter p xs ≡ filter q xs

@@ -4,4 +4,5 @@ pub mod Parts
 pub mod Read
 pub mod Lists
 pub mod Words
+pub mod Given
 pub mod Samples

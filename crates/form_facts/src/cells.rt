@@ -73,7 +73,11 @@ pub fn changed_in(alloc: Global, parts: &[Part<'_>], tags: &[Tag]) -> Result<Num
 }
 
 /// Those of some numbers that are among others.
-fn common(alloc: Global, numbers: &[u32], among: &Numbers) -> Result<Vec<u32>, AllocError>
+pub(crate) fn common(
+    alloc: Global,
+    numbers: &[u32],
+    among: &Numbers,
+) -> Result<Vec<u32>, AllocError>
     ensures { IfOk result (λ both. both.items ≡ filter (λ x. has_number x among.now) numbers.now) }
 {
     let mut both = Vec::new(alloc);

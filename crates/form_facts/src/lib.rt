@@ -6,6 +6,7 @@ mod cells;
 mod counts;
 mod facts;
 mod functions;
+mod given;
 mod lists;
 mod named;
 mod numbers;

@@ -1,13 +1,15 @@
 // The word variables of a form.
-ghost use Rattle.std.specs.Prelude.{◌≡◌, ◌++◌, [], OnOk, IfOk, flat_map, length};
+ghost use Rattle.std.specs.Prelude.{◌≡◌, ◌++◌, ◌<◌, ℕ, List, [], OnOk, IfOk, flat_map, length};
 ghost use Rattle.core_form.specs.Reading.{core_of, cores_list, parameter_of};
-ghost use Rattle.core_form.specs.Facts.{union, repeat, variable_under, variables_under, declared_integer};
+ghost use Rattle.core_form.specs.Facts.{union, without, repeat, variable_under, variables_under, declared_integer};
 ghost use Rattle.closed_copies.specs.Table.{as_list};
 ghost use Rattle.form_facts.specs.Parts.{read_by, taken_by};
 ghost use Rattle.form_facts.specs.Read.{part_of, parts_list, those_parameters};
+ghost use Rattle.form_facts.specs.Given.{LosesFirst};
 ghost use Rattle.form_facts.specs.Words.{kinds_of, taken_in as taken_of, kept_words, next_words, declared_of, settled_words};
 
 use crate::counts::Counts;
+use crate::given::{given_in, lose};
 use crate::numbers::{Numbers, others_of};
 use crate::parameters::parameters_in;
 use crate::parts::Part;
@@ -30,7 +32,7 @@ fn reads_in(alloc: Global, parts: &[Part<'_>]) -> Result<Vec<u32>, AllocError>
 }
 
 /// The variable to which a form refers, under any number of types that it must have.
-fn variable_in(core: &Core) -> Option<u32>
+pub(crate) fn variable_in(core: &Core) -> Option<u32>
     ensures { as_list result ≡ variable_under (core_of core.now) }
 {
     match &core.form {
@@ -144,25 +146,56 @@ fn narrow(
     kept(alloc, words, reads, &taken)
 }
 
-/// The words after as many rounds as there are of them. A round that changes nothing is the last.
-fn settle(
+/// What is lost of the words in so many rounds, one at least, where that much is lost in the first.
+/// After it a word is lost exactly where it is given to one that was lost in the round before.
+fn lose_further(
     alloc: Global,
-    declared: Vec<u32>,
+    rounds: usize,
+    declared: &[u32],
+    parts: &[Part<'_>],
+    first: &[u32],
+) -> Result<Numbers, AllocError>
+    ensures { IfOk result (λ lost. (reads : List ℕ) → LosesFirst reads (parts_list parts.now) declared.now first.now → 0 < rounds → without declared.now lost ≡ repeat rounds (next_words reads (parts_list parts.now)) declared.now) }
+{
+    let given = given_in(alloc, parts)?;
+    let all = Numbers::of(alloc, declared)?;
+    let mut just = Numbers::of(alloc, first)?;
+    let mut lost = Numbers::of(alloc, first)?;
+    for _round in 1..rounds {
+        just = lose(alloc, &given, &all, &mut lost, &just)?;
+    }
+    Ok(lost)
+}
+
+/// What is lost of the words in the first round.
+fn lose_first(
+    alloc: Global,
+    declared: &[u32],
     reads: &Counts,
     parts: &[Part<'_>],
 ) -> Result<Vec<u32>, AllocError>
-    ensures { IfOk result (λ words. words.items ≡ repeat (length declared.items) (next_words reads.now (parts_list parts.now)) declared.items) }
+    ensures { IfOk result (λ first. LosesFirst reads.now (parts_list parts.now) declared.now first.items) }
 {
-    let rounds = declared.len();
-    let mut words = declared;
-    for _round in 0..rounds {
-        let next = narrow(alloc, &words, reads, parts)?;
-        if next == words {
-            return Ok(words);
-        }
-        words = next;
+    let kept = narrow(alloc, declared, reads, parts)?;
+    let among = Numbers::of(alloc, &kept)?;
+    others_of(alloc, declared, &among)
+}
+
+/// The words after as many rounds as there are of them.
+fn settle(
+    alloc: Global,
+    declared: &[u32],
+    reads: &Counts,
+    parts: &[Part<'_>],
+) -> Result<Vec<u32>, AllocError>
+    ensures { IfOk result (λ words. words.items ≡ repeat (length declared.now) (next_words reads.now (parts_list parts.now)) declared.now) }
+{
+    if declared.is_empty() {
+        return Ok(Vec::new(alloc));
     }
-    Ok(words)
+    let first = lose_first(alloc, declared, reads, parts)?;
+    let lost = lose_further(alloc, declared.len(), declared, parts, &first)?;
+    others_of(alloc, declared, &lost)
 }
 
 fn note_declared(
@@ -212,6 +245,6 @@ pub fn words_in(
     let declared = declared_in(alloc, &parameters, symbols)?;
     let open = others_of(alloc, &declared, closed)?;
     let reads = Counts::of(alloc, reads_in(alloc, parts)?)?;
-    let words = settle(alloc, open, &reads, parts)?;
+    let words = settle(alloc, &open, &reads, parts)?;
     Numbers::of(alloc, &words)
 }
