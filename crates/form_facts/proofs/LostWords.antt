@@ -1,12 +1,11 @@
 -- What one round takes away is given to what the round before took away.
 use Rattle.std.specs.Prelude.{◌≡◌, refl, ℕ, zero, suc, ◌+◌, ◌==◌, Bool, true, false, not, ◌&&◌, ◌||◌, if◌then◌else◌, List, [], ◌∷◌, ◌++◌, length, flat_map, filter}
-use Rattle.std.proofs.Common.{ap, sym, ◌∙◌, subst, arith, cond, true≢false, ◌<◌}
+use Rattle.std.proofs.Common.{ap, sym, ◌∙◌, arith, cond, true≢false, ◌<◌}
 use Rattle.std.proofs.lemmas.Bool.{eqb-true, eq-eqb}
-use Rattle.core_form.specs.Tree.{Core}
 use Rattle.core_form.specs.Facts.{has_number, union, without, times_in, repeat, variable_under}
 use Rattle.closed_copies.proofs.Sets.{has_append, has_union, has_filter, has_without}
 use Rattle.form_facts.specs.Parts.{Part, reads, sets, leaves, goes, binds, computes, makes, taken_by}
-use Rattle.form_facts.specs.Words.{taken_in, kept_words, next_words}
+use Rattle.form_facts.specs.Words.{taken_in, next_words}
 use Rattle.form_facts.specs.Given.{given_by, given_to, given_to_all, lost_next}
 use Rattle.form_facts.proofs.NumberSets.{filter_or, swapped}
 use Rattle.form_facts.proofs.NumberLaws.{has_once}

@@ -1,4 +1,4 @@
-use Rattle.std.proofs.Common.{◌<◌, List, ℕ}
+use Rattle.std.proofs.Common.{List, ℕ}
 use Rattle.form_facts.specs.Read.{parts_list}
 use Rattle.form_facts.specs.Words.{next_words}
 use Rattle.form_facts.specs.Given.{LosesFirst}

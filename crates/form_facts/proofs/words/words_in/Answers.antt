@@ -15,8 +15,8 @@ returns c =
     let reads = c.in_ok-reads.ensures ∙ c.in_ok-reads_in.ensures in
     let declared =
     c.deref-2.ensures.value ∙ c.in_ok-declared.ensures ∙ ap (λ xs. declared_of kinds (those_parameters xs)) c.deref.ensures.value ∙ ap (declared_of kinds) c.in_ok-parameters.ensures in
-    let open_are = c.in_ok-open.ensures ∙ ap (λ xs. without xs closed) declared in
+    let open_are = c.deref-3.ensures.value ∙ c.in_ok-open.ensures ∙ ap (λ xs. without xs closed) declared in
     let words =
-    c.deref-3.ensures.value ∙ c.in_ok-words.ensures ∙ ap (λ rs. repeat (length c.in_ok-open.open.items) (next_words rs ps) c.in_ok-open.open.items) reads
+    c.deref-4.ensures.value ∙ c.in_ok-words.ensures ∙ ap (λ rs. repeat (length c.deref-3.result.now) (next_words rs ps) c.deref-3.result.now) reads
     ∙ ap (λ xs. repeat (length xs) (next_words (flat_map read_by ps) ps) xs) open_are in
-    IfOk-weaker c.of-2.result (λ all. all ≡ union [] c.deref-3.result.now) (λ all. all ≡ union [] (settled_words kinds closed ps)) (λ all h. h ∙ ap (union []) words) c.of-2.ensures
+    IfOk-weaker c.of-2.result (λ all. all ≡ union [] c.deref-4.result.now) (λ all. all ≡ union [] (settled_words kinds closed ps)) (λ all h. h ∙ ap (union []) words) c.of-2.ensures
