@@ -1,24 +1,22 @@
 -- The graphs of all forms of a program. (This project's own.)
-use Rattle.std.proofs.Common.{◌≡◌, ◌<◌, zero, ℕ, suc, ◌+◌, List, [], ◌∷◌, ◌++◌, length, map, take, sym, ap, subst, ◌∙◌, append-nil, append_assoc}
+use Rattle.std.proofs.Common.{◌≡◌, ◌<◌, ℕ, ◌+◌, List, [], ◌∷◌, ◌++◌, length, map, take, sym, ap, subst, ◌∙◌, append-nil, append_assoc}
 use Rattle.std.specs.Prelude.{get_or}
-use Rattle.std.specs.List.{Contains}
 use Rattle.std.proofs.lemmas.List.{map-append, take_more}
-use Rattle.std.proofs.lemmas.List.Elements.{Contains-append_left, Contains-append_right, Contains-get_or}
+use Rattle.std.proofs.lemmas.List.Elements.{Contains-append_left, Contains-append_right}
 use Rattle.layers.specs.Among.{Each}
 use Rattle.layers.specs.Layer.{Layer}
 use Rattle.layers.specs.Keeping.{Keeps}
 use Rattle.core_form.specs.declared.tree.TopForm.{TopForm}
 use Rattle.core_form.specs.Tree.{Top}
 use Rattle.core_form.specs.Reading.{top_of, tops_of}
-use Rattle.core_form.specs.State.{Symbol, Object}
-use Rattle.core_form.specs.AsLayer.{program_layer, forms_together}
+use Rattle.core_form.specs.AsLayer.{forms_together}
 use Rattle.core_form.specs.Laws.{ProgramIsItsForms}
 use Rattle.core_form.specs.Lawful.{Parts, meant}
 use Rattle.icr_graph.specs.Plain.{Slots, FlowGraph, graph_of}
 use Rattle.graph_meaning.specs.AsLayer.{graphs_together}
 use Rattle.form_graphs.specs.Functions.{IsGraphOf}
 use Rattle.form_graphs.specs.Laws.{GraphsKeepForms}
-use Rattle.icr_convert.specs.Whole.{IsFormOf, IsWellMade, symbols_of}
+use Rattle.icr_convert.specs.Whole.{IsWellMade, symbols_of}
 use Rattle.icr_convert.specs.Programs.{all_forms, AreFormsOf, IsMadeGraphOf, AreGraphsOf, AddsGraphs, GraphsKeepProgram}
 
 each_more : {C D : Type 0} (R : C → D → Type 0) (cs : List C) (ds : List D) (c : C) (d : D) → Each R cs ds → R c d → Each R (cs ++ c ∷ []) (ds ++ d ∷ [])
