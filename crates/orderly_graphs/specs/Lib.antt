@@ -1,0 +1,2 @@
+-- Which graphs run in order.
+pub mod Orderly
