@@ -12,7 +12,6 @@ use Rattle.core_form.specs.Lawful.{Parts, meant}
 use Rattle.icr_graph.specs.Plain.{Slots, FlowGraph, graph_of}
 use Rattle.graph_meaning.specs.AsLayer.{graphs_together}
 use Rattle.form_graphs.specs.Functions.{IsGraphOf}
-use Rattle.orderly_graphs.specs.Orderly.{RunsInOrder}
 use Rattle.icr_convert.specs.Whole.{IsFormOf, IsWellMade, symbols_of}
 
 -- the forms of a program, those of the prelude first
@@ -23,9 +22,9 @@ all_forms p = p.prelude ++ p.forms
 abbrev pub AreFormsOf : Parts → List TopForm → Type 0
 AreFormsOf p fs = (f : TopForm) → Contains fs f → IsFormOf p f
 
--- the graph of a form, well made, which runs in order
+-- the graph of a form, well made
 abbrev pub IsMadeGraphOf : List Symbol → Top → FlowGraph → Type 0
-IsMadeGraphOf symbols t g = IsGraphOf symbols t g × IsWellMade g × RunsInOrder symbols g
+IsMadeGraphOf symbols t g = IsGraphOf symbols t g × IsWellMade g
 
 -- each form's graph, in their order
 abbrev pub AreGraphsOf : Parts → List TopForm → List Slots → Type 0

@@ -5,7 +5,6 @@ ghost use Rattle.core_form.specs.Reading.{core_of, cores_list, top_of};
 ghost use Rattle.icr_graph.specs.Plain.{graph_of};
 ghost use Rattle.form_graphs.specs.Functions.{IsGraphOf};
 ghost use Rattle.form_names.specs.Read.{text_of};
-ghost use Rattle.orderly_graphs.specs.Orderly.{RunsInOrder};
 ghost use Rattle.icr_convert.specs.Whole.{Begun, CodesAll, GraphKeeps, IsFormOf, IsWellMade, NamesMade, OwnCodes, defined_with, set_by, set_first, set_in, symbols_of};
 
 use crate::binders::note;
@@ -21,7 +20,6 @@ use form_names::{Text, form_names, functions_in, numbered_functions};
 use graph_building::Builder;
 use icr_graph::{Defined, Graph, NodeKind};
 use lisp_base::SymId;
-use orderly_graphs::graphs_run_in_order;
 use std::alloc::{AllocError, Global};
 
 /// The symbol to which a node gives a function.
@@ -112,8 +110,7 @@ fn begin(alloc: Global, form: &TopForm) -> Result<Converter, AllocError>
 
 /// The flow graph of a form of a program. It is the form's graph, and keeps what the form means
 /// among any other forms and their graphs. Every assertion in it is checked; two blocks follow each
-/// block that ends with an If, at most one each other block; each block belongs to one function. In
-/// every run a node finds values in each of its operands, and behind each block is one to go on at.
+/// block that ends with an If, at most one each other block; each block belongs to one function.
 ///
 /// # Errors
 /// Want of memory alone.
@@ -122,10 +119,8 @@ pub fn convert_form(alloc: Global, form: &TopForm, program: &Program) -> Result<
     ensures graph { IfOk result (λ g. IsGraphOf (symbols_of program.now) (top_of form.now) (graph_of g)) }
     ensures keeps { IfOk result (λ g. GraphKeeps program.now form.now (graph_of g)) }
     ensures made { IfOk result (λ g. IsWellMade (graph_of g)) }
-    ensures runs { IfOk result (λ g. RunsInOrder (symbols_of program.now) (graph_of g)) }
 {
     graphs_keep_forms();
-    graphs_run_in_order();
     numbered_functions();
     program.prelude();
     let texts = functions_in(alloc, &form.core)?;

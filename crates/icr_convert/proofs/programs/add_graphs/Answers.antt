@@ -14,4 +14,4 @@ loop-form-preserved c =
     let i = c.loop-form.form-index in
     let made = c.in_ok-convert_form.ensures in
     subst (λ (hs : List Slots). AddsGraphs p (take (i + 1) fs) c.args.graphs.now.items hs) (sym c.in_ok-push.ensures.items)
-    (one_added p fs i c.form-item.result c.args.graphs.now.items c.loop-form.graphs.items c.in_ok-convert_form.field-0 c.loop-form-test.true (sym c.form-item.is) c.loop-form.invariant (made.graph, made.made, made.runs))
+    (one_added p fs i c.form-item.result c.args.graphs.now.items c.loop-form.graphs.items c.in_ok-convert_form.field-0 c.loop-form-test.true (sym c.form-item.is) c.loop-form.invariant (made.graph, made.made))

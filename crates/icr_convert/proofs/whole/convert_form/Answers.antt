@@ -6,7 +6,6 @@ use Rattle.core_form.specs.Reading.{core_of, top_of}
 use Rattle.icr_graph.specs.Plain.{Slots, graph_of}
 use Rattle.form_graphs.specs.Functions.{IsGraphOf}
 use Rattle.form_names.specs.Read.{text_of}
-use Rattle.orderly_graphs.specs.Orderly.{RunsInOrder}
 use Rattle.icr_convert.specs.Whole.{CodesAll, GraphKeeps, symbols_of}
 use Rattle.icr_convert.proofs.WholeForms.{form_lawful, graph_of_form, keeps, well_made}
 use Rattle.icr_convert.proofs.whole.convert_form.Goals as goal
@@ -37,10 +36,3 @@ returns-clause-keeps c =
 
 pub returns-clause-made : goal.returns-clause-made
 returns-clause-made c = well_made c.finish.result c.finish.ensures.checked c.finish.ensures.few c.finish.ensures.functions
-
-pub returns-clause-runs : goal.returns-clause-runs
-returns-clause-runs c =
-    let symbols = symbols_of c.args.program.now in
-    let t = top_of c.args.form.now in
-    IfOk-weaker c.finish.result (λ g. IsGraphOf symbols t (graph_of g)) (λ g. RunsInOrder symbols (graph_of g))
-    (λ g is. c.graphs_run_in_order.ensures symbols t (graph_of g) is) (returns-clause-graph c)

@@ -1,2 +1,0 @@
--- Which graphs run in order.
-pub mod Orderly
